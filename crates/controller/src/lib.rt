@@ -1,0 +1,4 @@
+// Controllers: tables of entries.
+
+pub mod entry;
+pub mod table;

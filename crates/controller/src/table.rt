@@ -15,6 +15,7 @@ pub struct Table {
     actions: u8,
     observations: u8,
     entries: [Entry; 64],
+    ghost some: { 1 ≤ memories },
     ghost few: { memories ≤ 4 },
     ghost able: { actions ≤ 8 },
     ghost narrow: { observations ≤ 16 },

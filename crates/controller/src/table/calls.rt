@@ -1,6 +1,6 @@
 ghost use mathlib.Core.Path.{_≡_};
 ghost use mathlib.Core.Bool.{cond};
-ghost use Prim.Native.Nat.{ℕ, _<_, min};
+ghost use Prim.Native.Nat.{ℕ, _<_, min, max};
 ghost use lib.ListN.{replicate};
 ghost use Rattle.std.specs.Options.{Cases as BySome};
 ghost use Rattle.std.specs.declared.option.Option.the-variants.{Some, None};
@@ -13,15 +13,15 @@ use crate::table::MOST_OBSERVATIONS;
 use crate::table::Table;
 
 impl Table {
-    // The table with every entry blank. A count past its limit is taken as the limit.
+    // The table with every entry blank. A count past its limit is taken as the limit, and no memory as one.
     pub fn blank(memories: u8, actions: u8, observations: u8) -> Table
-        ensures memories { λ r. ⌜ r .memories ≡ min memories 4 ⌝ }
+        ensures memories { λ r. ⌜ r .memories ≡ max 1 (min memories 4) ⌝ }
         ensures actions { λ r. ⌜ r .actions ≡ min actions 8 ⌝ }
         ensures observations { λ r. ⌜ r .observations ≡ min observations 16 ⌝ }
         ensures entries { λ r. ⌜ r .entries ≡ replicate 64 blank ⌝ }
     {
         Table {
-            memories: memories.min(MOST_MEMORIES),
+            memories: memories.min(MOST_MEMORIES).max(1),
             actions: actions.min(MOST_ACTIONS),
             observations: observations.min(MOST_OBSERVATIONS),
             entries: [Entry::Blank; 64],

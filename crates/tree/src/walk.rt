@@ -14,7 +14,7 @@ pub struct Place {
 // trail is never longer.
 #[derive(Clone, Copy)]
 pub struct Walk {
-    table: Table,
+    pub table: Table,
     trail: [Place; 64],
     depth: usize,
     ghost deep: { depth ≤ 64 },

@@ -1,9 +1,10 @@
 ghost use mathlib.Core.Path.{_≡_};
-ghost use mathlib.Core.Bool.{Bool, true, false, cond};
+ghost use mathlib.Core.Bool.{true, false, cond, _&&_, _||_};
 ghost use Prim.Native.Nat.{ℕ, _<_, _≤_};
-ghost use lib.ListN.{replicate, set};
+ghost use lib.Dec.{eqb};
 ghost use Rattle.std.specs.Options.{Cases as BySome};
-ghost use Rattle.tree.specs.Bars.{barredAt, stands, spot};
+ghost use Rattle.std.specs.declared.option.Option.the-variants.{Some, None};
+ghost use Rattle.tree.specs.Bars.{barredAt, spot, stands};
 use crate::bars::Bars;
 
 const OBSERVATIONS: u8 = 16;
@@ -12,17 +13,29 @@ const ACTIONS: u8 = 8;
 impl Bars {
     // Nothing is barred.
     pub fn none() -> Bars
-        ensures { λ r. ⌜ r .barred ≡ replicate 128 false ⌝ }
+        ensures { λ r. ⌜ ((o a : ℕ) → barredAt r o a ≡ false) ⌝ }
     {
         Bars { barred: [false; 128] }
     }
 
-    // Bars the action at the observation, and nothing else; past the limits of an alphabet nothing changes.
-    pub fn add(&mut self, observation: u8, action: u8)
-        ensures { λ _. ⌜ now (self .exit) .barred ≡ cond (stands observation action) (set (now (self .entry) .barred) (spot observation action) true) (now (self .entry) .barred) ⌝ }
+    // Where the mark of an observation and an action stands, within the limits of an alphabet.
+    fn spot(observation: u8, action: u8) -> Option<usize>
+        ensures at { λ r. ⌜ r ≡ cond (stands observation action) (Some (spot observation action)) None ⌝ }
+        ensures within { λ r. ⌜ BySome r (Unit {0}) (λ k. k < 128) ⌝ }
     {
         if observation < OBSERVATIONS && action < ACTIONS {
-            self.barred[observation as usize * 8 + action as usize] = true;
+            Some(observation as usize * 8 + action as usize)
+        } else {
+            None
+        }
+    }
+
+    // Bars the action at the observation, and nothing else; past the limits of an alphabet nothing changes.
+    pub fn add(&mut self, observation: u8, action: u8)
+        ensures { λ _. ⌜ ((o a : ℕ) → barredAt (now (self .exit)) o a ≡ (barredAt (now (self .entry)) o a || (stands observation action && (eqb observation o && eqb action a)))) ⌝ }
+    {
+        if let Some(spot) = Bars::spot(observation, action) {
+            self.barred[spot] = true;
         }
     }
 
@@ -30,10 +43,9 @@ impl Bars {
     pub fn bars(&self, observation: u8, action: u8) -> bool
         ensures { λ r. ⌜ r ≡ barredAt (now (self .entry)) observation action ⌝ }
     {
-        if observation < OBSERVATIONS && action < ACTIONS {
-            self.barred[observation as usize * 8 + action as usize]
-        } else {
-            false
+        match Bars::spot(observation, action) {
+            Some(spot) => self.barred[spot],
+            None => false,
         }
     }
 

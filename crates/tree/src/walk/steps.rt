@@ -1,4 +1,3 @@
-ghost use mathlib.Core.Path.{_≡_};
 ghost use Rattle.tree.specs.Walks.{Back, Descended, Root};
 use crate::bars::Bars;
 use crate::choices::following;
@@ -17,13 +16,6 @@ impl Walk {
             trail: [Place { memory: 0, observation: 0 }; 64],
             depth: 0,
         }
-    }
-
-    // The table that the walk stands at.
-    pub fn table(&self) -> &Table
-        ensures { λ r. ⌜ now r ≡ now (self .entry) .table ⌝ }
-    {
-        &self.table
     }
 
     // To the first child, which fills the entry with stop. False, with nothing changed, where the trail is full.

@@ -1,9 +1,11 @@
 -- Which calls a case takes, and what each leaves it at.
 use mathlib.Core.Path.{_≡_}
 use mathlib.Core.Bool.{Bool, true, false, cond, _&&_, _||_}
-use Prim.Native.Nat.{ℕ, _+_, _≤_, _<_}
+use mathlib.Core.List.{List}
+use Prim.Native.Nat.{ℕ, _≤_}
 use lib.Dec.{eqb, leb, ltb}
 use lib.ListN.{replicate}
+use Rattle.std.specs.Results.{Cases}
 use Rattle.std.specs.declared.option.Option.{Option}
 use Rattle.std.specs.declared.option.Option.the-variants.{Some, None}
 use Rattle.std.specs.declared.result.Result.{Result}
@@ -13,6 +15,7 @@ use Rattle.refusals.specs.declared.Refusal.{Refusal}
 use Rattle.refusals.specs.declared.Refusal.the-variants as refuse
 use Rattle.controller.specs.declared.entry.Entry.the-variants.{Blank}
 use Rattle.controller.specs.declared.table.Table.{Table}
+use Rattle.measure.specs.Refused.{size, Loaded, Refused}
 use Rattle.tree.specs.Bars.{barredAt}
 use Rattle.tree.specs.Walks.{Back}
 use Rattle.case.specs.declared.case.Phase.{Phase}
@@ -54,6 +57,13 @@ refusal x Exhausted (Bar o a) = Some refuse.AlreadyBegun
 refusal x Exhausted (Begin n) = Some refuse.AlreadyBegun
 refusal x Exhausted (Advance k) = Some refuse.NotSearching
 refusal x Exhausted Next = Some refuse.NothingFound
+
+-- The refusal of a call that speaks of the found table, by the state.
+abbrev pub unfound : Phase → Option Refusal
+unfound New = Some refuse.NotBegun
+unfound Searching = Some refuse.NothingFound
+unfound Found = None
+unfound Exhausted = Some refuse.NothingFound
 
 abbrev pub admitted : Option Refusal → Result Unit Refusal
 admitted None = Ok tt
@@ -127,3 +137,8 @@ module _ {E R : Type 0} where
   pub record Left (answer : Phase) (before after : Case E R) : Type 0 where
     pub told : answer ≡ after .phase
     pub left : Retreated before after
+
+  -- what worst answers and leaves in the loads: refused by the state it changes nothing; in a found case it goes by the picture
+  pub record Weighed {L : Type 0} (none : L) (x : System) (c : Case E R) (before after : List L) (r : Result L Refusal) : Type 0 where
+    pub refused : (e : Refusal) → unfound (c .phase) ≡ Some e → (r ≡ Err e) × (after ≡ before)
+    pub measured : unfound (c .phase) ≡ None → Cases r (λ _. Loaded none (size x (c .walk .table)) (c .picture) before after) (λ e. Refused (size x (c .walk .table)) (c .picture) before after e)

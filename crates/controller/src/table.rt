@@ -4,7 +4,9 @@ use crate::entry::Entry;
 mod calls;
 
 pub const MOST_MEMORIES: u8 = 4;
+
 pub const MOST_ACTIONS: u8 = 8;
+
 pub const MOST_OBSERVATIONS: u8 = 16;
 
 // A controller of `memories` memories over an alphabet of `actions` and `observations`. Entry (m, o) stands at the place

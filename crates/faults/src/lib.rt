@@ -90,7 +90,10 @@ impl JobFault {
         ensures { λ r. ⌜ r ≡ headOf self ⌝ }
     {
         match self {
-            JobFault::Sheet(SheetFault::Chain(fault)) => Some(Head { state: fault.state, action: fault.action }),
+            JobFault::Sheet(SheetFault::Chain(fault)) => Some(Head {
+                state: fault.state,
+                action: fault.action,
+            }),
             _ => None,
         }
     }

@@ -2,8 +2,30 @@
 use Prim.Native.Nat.{ℕ}
 use Rattle.refusals.specs.declared.Refusal.{Refusal}
 use Rattle.refusals.specs.declared.Refusal.the-variants.{
-  Length, Mark, Count, StateSet, Observation, Index, NotRising, Field, Repeated, Bound, Amount, Bar, NoStart, FewLoads, ShortBuffer,
-  OtherAlphabet, OutsideTable, Rule, NotBegun, AlreadyBegun, NothingFound, NotSearching, Cycle, BlankEntry
+  Length,
+  Mark,
+  Count,
+  StateSet,
+  Observation,
+  Index,
+  NotRising,
+  Field,
+  Repeated,
+  Bound,
+  Amount,
+  Bar,
+  NoStart,
+  FewLoads,
+  ShortBuffer,
+  OtherAlphabet,
+  OutsideTable,
+  Rule,
+  NotBegun,
+  AlreadyBegun,
+  NothingFound,
+  NotSearching,
+  Cycle,
+  BlankEntry,
 }
 
 abbrev pub number : Refusal → ℕ

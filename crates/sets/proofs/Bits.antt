@@ -80,7 +80,7 @@ pub has-one : (s t : ℕ) → has (2 ^ s) t ≡ eqb s t
 has-one s t =
     ⊎-elim (λ e. subst (λ x. has (2 ^ s) x ≡ eqb s x) e (has-self s ∙ sym (eq-eqb s s refl)))
     (⊎-elim (λ l. has-above (2 ^ s) (suc s) t (pow-below s (suc s) (omega arith)) (omega arith) ∙ sym (ne-eqb s t (λ e. omega arith)))
-      (λ g. let e : suc (s - suc t) + t ≡ s = omega arith in subst (λ x. has (2 ^ x) t ≡ false) e (has-low (s - suc t) t) ∙ sym (ne-eqb s t (λ f. omega arith))))
+    (λ g. let e : suc (s - suc t) + t ≡ s = omega arith in subst (λ x. has (2 ^ x) t ≡ false) e (has-low (s - suc t) t) ∙ sym (ne-eqb s t (λ f. omega arith))))
     (cases-order s t)
 
 -- two sets with the same members are one number
@@ -94,13 +94,14 @@ has-zero m = ap (λ x. eqb (x % 2) 1) (omega arith)
 pub same-set : (a b : ℕ) → ((t : ℕ) → has a t ≡ has b t) → a ≡ b
 same-set a =
     bin-ind (λ n. (b : ℕ) → ((t : ℕ) → has n t ≡ has b t) → n ≡ b)
-      (λ b e. bin-ind (λ n. ((t : ℕ) → has 0 t ≡ has n t) → 0 ≡ n) (λ _. refl) (λ n ih f. step 0 n (ih (λ t. f′ n f t)) (f 0)) b e)
-      (λ n ih b e. step n b (ih (b / 2) (λ t. sym (has-suc n t) ∙ e (suc t) ∙ has-suc b t)) (e 0)) a
+    (λ b e. bin-ind (λ n. ((t : ℕ) → has 0 t ≡ has n t) → 0 ≡ n) (λ _. refl) (λ n ih f. step 0 n (ih (λ t. f′ n f t)) (f 0)) b e)
+    (λ n ih b e. step n b (ih (b / 2) (λ t. sym (has-suc n t) ∙ e (suc t) ∙ has-suc b t)) (e 0)) a
   where
     step : (n m : ℕ) → n / 2 ≡ m / 2 → has n 0 ≡ has m 0 → n ≡ m
     step n m h e =
         let d = digit-same (n % 2) (m % 2) (two-cases _ (bit n)) (two-cases _ (bit m)) (sym (has-zero n) ∙ e ∙ has-zero m) in
         omega arith
+
     f′ : (n : ℕ) → ((t : ℕ) → has 0 t ≡ has n t) → (t : ℕ) → has 0 t ≡ has (n / 2) t
     f′ n f t = has-none t ∙ sym (has-none (suc t)) ∙ f (suc t) ∙ has-suc n t
 
@@ -114,10 +115,12 @@ mask-test m t = ⊎-elim yes-case no-case (cases-bool (has m t))
   where
     member : (k : ℕ) → has (bitAnd m (2 ^ t)) k ≡ (has m k && eqb t k)
     member k = has-and m (2 ^ t) k ∙ ap (λ b. has m k && b) (has-one t k)
+
     yes-case : has m t ≡ true → not (eqb (bitAnd m (2 ^ t)) 0) ≡ has m t
     yes-case e =
         let here : has (bitAnd m (2 ^ t)) t ≡ true = member t ∙ ap₂ _&&_ e (eq-eqb t t refl) in
         ap not (ne-eqb (bitAnd m (2 ^ t)) 0 (λ z. both-ways _ (ap (λ x. has x t) z ∙ has-none t) here)) ∙ sym e
+
     no-case : has m t ≡ false → not (eqb (bitAnd m (2 ^ t)) 0) ≡ has m t
     no-case e =
         let none : bitAnd m (2 ^ t) ≡ 0 = same-set _ 0 (λ k. member k ∙ absent k e ∙ sym (has-none k)) in

@@ -26,7 +26,10 @@ pub fn following(bars: &Bars, table: &Table, observation: u8, entry: Entry) -> O
         Entry::Stop => first_move(bars, table, observation, 0),
         Entry::Move { action, next } => {
             if next < table.memories() - 1 {
-                Some(Entry::Move { action, next: next + 1 })
+                Some(Entry::Move {
+                    action,
+                    next: next + 1,
+                })
             } else if action < 255 {
                 first_move(bars, table, observation, action + 1)
             } else {

@@ -14,6 +14,7 @@ use tree::bars::Bars;
 use tree::walk::Walk;
 
 const LARGEST_BOUND: u8 = 4;
+
 const LARGEST_AMOUNT: u32 = 1_000_000;
 
 impl<E: Environment, R: FinishRule> Case<E, R> {
@@ -57,7 +58,13 @@ impl<E: Environment, R: FinishRule> Case<E, R> {
         ensures { λ r. ⌜ r ≡ admitted (refusal (E·Environment .meaning (now (self .entry) .environment)) (now (self .entry) .phase) call) ⌝ }
     {
         match (self.phase, call) {
-            (Phase::New, Call::Bar { observation, action }) => self.admit_bar(observation, action),
+            (
+                Phase::New,
+                Call::Bar {
+                    observation,
+                    action,
+                },
+            ) => self.admit_bar(observation, action),
             (Phase::New, Call::Begin { bound }) => self.admit_begin(bound),
             (Phase::New, Call::Advance { .. } | Call::Next) => Err(Refusal::NotBegun),
             (_, Call::Bar { .. } | Call::Begin { .. }) => Err(Refusal::AlreadyBegun),
@@ -79,7 +86,10 @@ impl<E: Environment, R: FinishRule> Case<E, R> {
         ensures answer { λ r. ⌜ r ≡ admitted (refusal (E·Environment .meaning (now (self .entry) .environment)) (now (self .entry) .phase) (barring observation action)) ⌝ }
         ensures effect { λ r. ⌜ Cases r (λ _. Barred observation action (now (self .entry)) (now (self .exit))) (λ _. now (self .exit) ≡ now (self .entry)) ⌝ }
     {
-        self.admit(Call::Bar { observation, action })?;
+        self.admit(Call::Bar {
+            observation,
+            action,
+        })?;
         self.bars.add(observation, action);
         Ok(())
     }

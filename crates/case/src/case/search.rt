@@ -59,7 +59,10 @@ impl<E: Environment, R: FinishRule> Case<E, R> {
                 phase => return Ok(Advance { phase, judged }),
             }
         }
-        Ok(Advance { phase: Phase::Searching, judged })
+        Ok(Advance {
+            phase: Phase::Searching,
+            judged,
+        })
     }
 
     // Leaves a found table for the one after it in the order, which is not judged yet.

@@ -1,10 +1,13 @@
 ghost use mathlib.Core.Path.{_≡_};
-ghost use Rattle.case.specs.Calls.{foundTable};
+ghost use Rattle.case.specs.Calls.{foundTable, Weighed};
 use crate::case::Case;
 use crate::case::Phase;
 use controller::table::Table;
 use environment::Environment;
 use finish::FinishRule;
+use measure::Measure;
+use measure::loads::worst;
+use refusals::Refusal;
 
 impl<E: Environment, R: FinishRule> Case<E, R> {
     // Where the case stands.
@@ -21,6 +24,23 @@ impl<E: Environment, R: FinishRule> Case<E, R> {
         match self.phase {
             Phase::Found => Some(self.walk.table),
             Phase::New | Phase::Searching | Phase::Exhausted => None,
+        }
+    }
+
+    // The greatest load of a full run of the found table.
+    pub fn worst<M: Measure>(&self, measure: &M, loads: &mut [M::Load]) -> Result<M::Load, Refusal>
+        ensures { λ r. ⌜ Weighed (M·Measure .none) (E·Environment .meaning (now (self .entry) .environment)) (now (self .entry)) (now (loads .entry)) (now (loads .exit)) r ⌝ }
+    {
+        match self.phase {
+            Phase::New => Err(Refusal::NotBegun),
+            Phase::Searching | Phase::Exhausted => Err(Refusal::NothingFound),
+            Phase::Found => worst(
+                measure,
+                &self.environment,
+                &self.walk.table,
+                &self.picture,
+                loads,
+            ),
         }
     }
 }

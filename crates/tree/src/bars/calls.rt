@@ -8,6 +8,7 @@ ghost use Rattle.tree.specs.Bars.{barredAt, spot, stands};
 use crate::bars::Bars;
 
 const OBSERVATIONS: u8 = 16;
+
 const ACTIONS: u8 = 8;
 
 impl Bars {
@@ -15,7 +16,9 @@ impl Bars {
     pub fn none() -> Bars
         ensures { λ r. ⌜ ((o a : ℕ) → barredAt r o a ≡ false) ⌝ }
     {
-        Bars { barred: [false; 128] }
+        Bars {
+            barred: [false; 128],
+        }
     }
 
     // Where the mark of an observation and an action stands, within the limits of an alphabet.

@@ -13,7 +13,10 @@ impl Walk {
     {
         Walk {
             table: Table::blank(memories, actions, observations),
-            trail: [Place { memory: 0, observation: 0 }; 64],
+            trail: [Place {
+                memory: 0,
+                observation: 0,
+            }; 64],
             depth: 0,
         }
     }
@@ -26,7 +29,10 @@ impl Walk {
             return false;
         }
         self.table.set(memory, observation, Entry::Stop);
-        self.trail[self.depth] = Place { memory, observation };
+        self.trail[self.depth] = Place {
+            memory,
+            observation,
+        };
         self.depth += 1;
         true
     }
@@ -36,7 +42,10 @@ impl Walk {
         ensures { λ r. ⌜ Back (now (bars .entry)) (now (self .entry)) (now (self .exit)) r ⌝ }
     {
         while self.depth > 0 {
-            let Place { memory, observation } = self.trail[self.depth - 1];
+            let Place {
+                memory,
+                observation,
+            } = self.trail[self.depth - 1];
             let entry = self.table.entry(memory, observation);
             match following(bars, &self.table, observation, entry) {
                 Some(next) => {

@@ -1,0 +1,5 @@
+pub mod Systems
+pub mod Turns
+pub mod Writes
+pub mod Walks
+pub mod Whole

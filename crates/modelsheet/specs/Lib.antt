@@ -1,0 +1,4 @@
+pub mod Judge
+pub mod Laid
+pub mod Says
+pub mod Sheet

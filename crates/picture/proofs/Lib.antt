@@ -1,0 +1,4 @@
+pub mod Masks
+pub mod Puts
+pub mod Sweeps
+pub mod Live

@@ -3,7 +3,7 @@ use mathlib.Core.Path.{_≡_}
 use mathlib.Core.Bool.{Bool, true, false, cond, _&&_, _||_}
 use mathlib.Core.List.{List}
 use Prim.Native.Nat.{ℕ, _≤_}
-use lib.Dec.{eqb, leb, ltb}
+use lib.Dec.{eqb, leb}
 use lib.ListN.{replicate}
 use Rattle.std.specs.Results.{Cases}
 use Rattle.std.specs.declared.option.Option.{Option}
@@ -13,6 +13,7 @@ use Rattle.std.specs.declared.result.Result.the-variants.{Ok, Err}
 use Rattle.environment.specs.System.{System}
 use Rattle.refusals.specs.declared.Refusal.{Refusal}
 use Rattle.refusals.specs.declared.Refusal.the-variants as refuse
+use Rattle.refusals.specs.Range.{outside}
 use Rattle.controller.specs.declared.entry.Entry.the-variants.{Blank}
 use Rattle.controller.specs.declared.table.Table.{Table}
 use Rattle.measure.specs.Refused.{size, Loaded, Refused}
@@ -35,19 +36,15 @@ abbrev pub orElse : Option Refusal → Option Refusal → Option Refusal
 orElse (Some r) o = Some r
 orElse None o = o
 
--- n is not from low to high
-abbrev pub outside : ℕ → ℕ → ℕ → Bool
-outside low high n = ltb n low || ltb high n
-
 -- The refusal of each call in each state, over the environment's system; none where the call is taken.
 abbrev pub refusal : System → Phase → Call → Option Refusal
 refusal x New (Bar o a) = when (leb (x .observations) o || leb (x .actions) a) refuse.Bar
-refusal x New (Begin n) = orElse (when (outside 1 4 n) refuse.Bound) (when (eqb (x .states) 0 || eqb (x .initial) 0) refuse.NoStart)
+refusal x New (Begin n) = orElse (when (outside 4 n) refuse.Bound) (when (eqb (x .states) 0 || eqb (x .initial) 0) refuse.NoStart)
 refusal x New (Advance k) = Some refuse.NotBegun
 refusal x New Next = Some refuse.NotBegun
 refusal x Searching (Bar o a) = Some refuse.AlreadyBegun
 refusal x Searching (Begin n) = Some refuse.AlreadyBegun
-refusal x Searching (Advance k) = when (outside 1 1000000 k) refuse.Amount
+refusal x Searching (Advance k) = when (outside 1000000 k) refuse.Amount
 refusal x Searching Next = Some refuse.NothingFound
 refusal x Found (Bar o a) = Some refuse.AlreadyBegun
 refusal x Found (Begin n) = Some refuse.AlreadyBegun

@@ -5,10 +5,6 @@ mod calls;
 
 pub const MOST_MEMORIES: u8 = 4;
 
-pub const MOST_ACTIONS: u8 = 8;
-
-pub const MOST_OBSERVATIONS: u8 = 16;
-
 // A controller of `memories` memories over an alphabet of `actions` and `observations`. Entry (m, o) stands at the place
 // m * observations + o; places past the last entry are not used.
 #[derive(Clone, Copy)]

@@ -4,6 +4,13 @@ ghost use mathlib.Core.Path.{_≡_};
 ghost use Prim.Native.Nat.{ℕ};
 ghost use Rattle.environment.specs.System.{System, Sound};
 
+// The limits of an environment.
+pub const MOST_ACTIONS: u8 = 8;
+
+pub const MOST_OBSERVATIONS: u8 = 16;
+
+pub const MOST_STATES: u8 = 64;
+
 // The actions and the observations of a line, each numbered from 0.
 pub trait Alphabet {
     // How many actions there are.

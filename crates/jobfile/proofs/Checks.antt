@@ -10,7 +10,8 @@ use Rattle.std.specs.declared.result.Result.{Result}
 use Rattle.std.specs.declared.result.Result.the-variants.{Ok, Err}
 use Rattle.faults.specs.declared.JobFault.{JobFault}
 use Rattle.faults.specs.Place.{inFile}
-use Rattle.modelsheet.specs.Judge.{andThen, judge, outside, raise}
+use Rattle.refusals.specs.Range.{outside}
+use Rattle.modelsheet.specs.Judge.{andThen, judge, raise}
 use Rattle.jobfile.specs.Job.{boundOf, ruleByteOf, sheetOf, judgeRule, judgeJob}
 
 pub by-sheet : (b : List ℕ) → 2 ≤ length b → (boundOf b ≡ 0 → ⊥) → boundOf b ≤ 4 → judgeRule (ruleByteOf b) ≡ Ok tt → judgeJob b ≡ raise inFile (judge (sheetOf b))

@@ -9,10 +9,11 @@ use Rattle.std.specs.declared.result.Result.{Result}
 use Rattle.std.specs.declared.result.Result.the-variants.{Ok, Err}
 use Rattle.refusals.specs.declared.Refusal.{Refusal}
 use Rattle.refusals.specs.declared.Refusal.the-variants as refuse
+use Rattle.refusals.specs.Range.{outside}
 use Rattle.faults.specs.declared.JobFault.{JobFault}
 use Rattle.faults.specs.declared.JobFault.the-variants.{File}
 use Rattle.faults.specs.Place.{inFile}
-use Rattle.modelsheet.specs.Judge.{Judged, andThen, judge, outside, raise}
+use Rattle.modelsheet.specs.Judge.{Judged, andThen, judge, raise}
 use Rattle.modelsheet.specs.Says.{Says, systemOf}
 use Rattle.jobfile.specs.declared.job.Rule.{Rule}
 use Rattle.jobfile.specs.declared.job.Rule.the-variants.{Strict, Patient}

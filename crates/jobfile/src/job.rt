@@ -1,12 +1,11 @@
 ghost use Rattle.jobfile.specs.Job.{JobRead, RuleRead};
+use controller::table::MOST_MEMORIES;
 use faults::JobFault;
 use faults::JobFaultFromSheet;
 use modelsheet::model::Model;
 use refusals::Refusal;
 
 const LEAST_LENGTH: usize = 2;
-
-const LARGEST_BOUND: u8 = 4;
 
 // The finish rule that a job asks for.
 #[derive(Clone, Copy, Debug, PartialEq, Eq)]
@@ -51,7 +50,7 @@ impl Job {
             });
         }
         let bound = file[0];
-        if bound == 0 || bound > LARGEST_BOUND {
+        if bound == 0 || bound > MOST_MEMORIES {
             return Err(JobFault::File {
                 refusal: Refusal::Bound,
                 byte: 0,

@@ -10,6 +10,7 @@ use Rattle.std.specs.declared.result.Result.{Result}
 use Rattle.std.specs.declared.result.Result.the-variants.{Ok, Err}
 use Rattle.refusals.specs.declared.Refusal.{Refusal}
 use Rattle.refusals.specs.declared.Refusal.the-variants.{Length, Mark, Count, StateSet, Observation, Index, NotRising, Field, Repeated}
+use Rattle.refusals.specs.Range.{outside}
 use Rattle.faults.specs.declared.ChainFault.{ChainFault}
 use Rattle.faults.specs.declared.SheetFault.{SheetFault}
 use Rattle.faults.specs.declared.SheetFault.the-variants.{Sheet}
@@ -39,10 +40,6 @@ faultOf s a r at = record { refusal = r; byte = at; state = s; action = a }
 
 abbrev pub blame : ℕ → ℕ → Refusal → ℕ → Result Unit ChainFault
 blame s a r at = Err (faultOf s a r at)
-
--- Not 1 to n.
-abbrev pub outside : ℕ → ℕ → Bool
-outside n x = eqb x 0 || ltb n x
 
 abbrev pub judgeHeader : List ℕ → Result Unit SheetFault
 judgeHeader b =

@@ -7,12 +7,6 @@ mod read;
 pub use crate::model::questions::ModelAlphabet;
 pub use crate::model::questions::ModelEnvironment;
 
-pub const MOST_STATES: u8 = 64;
-
-pub const MOST_ACTIONS: u8 = 8;
-
-pub const MOST_OBSERVATIONS: u8 = 16;
-
 // The environment of a model sheet: what was read of the sheet, with the outcome sets as masks, so that a question costs no walk of a
 // chain. The outcome set of a state and an action stands at state * actions + action; places past the last are not used.
 #[derive(Clone, Copy)]

@@ -6,14 +6,13 @@ ghost use Rattle.case.specs.declared.case.Phase.the-variants.{New};
 use crate::case::Call;
 use crate::case::Case;
 use crate::case::Phase;
+use controller::table::MOST_MEMORIES;
 use environment::Environment;
 use finish::FinishRule;
 use picture::Picture;
 use refusals::Refusal;
 use tree::bars::Bars;
 use tree::walk::Walk;
-
-const LARGEST_BOUND: u8 = 4;
 
 const LARGEST_AMOUNT: u32 = 1_000_000;
 
@@ -44,7 +43,7 @@ impl<E: Environment, R: FinishRule> Case<E, R> {
     fn admit_begin(&self, bound: u8) -> Result<(), Refusal>
         ensures { λ r. ⌜ r ≡ admitted (refusal (E·Environment .meaning (now (self .entry) .environment)) New (beginning bound)) ⌝ }
     {
-        if bound == 0 || bound > LARGEST_BOUND {
+        if bound == 0 || bound > MOST_MEMORIES {
             return Err(Refusal::Bound);
         }
         if self.environment.states() == 0 || self.environment.initial() == 0 {

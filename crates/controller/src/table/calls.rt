@@ -7,10 +7,10 @@ ghost use Rattle.std.specs.declared.option.Option.the-variants.{Some, None};
 ghost use Rattle.controller.specs.Tables.{entryAt, inside, place, readAs, Written};
 ghost use Rattle.controller.specs.declared.entry.Entry.the-variants.{Blank as blank};
 use crate::entry::Entry;
-use crate::table::MOST_ACTIONS;
 use crate::table::MOST_MEMORIES;
-use crate::table::MOST_OBSERVATIONS;
 use crate::table::Table;
+use environment::MOST_ACTIONS;
+use environment::MOST_OBSERVATIONS;
 
 impl Table {
     // The table with every entry blank. A count past its limit is taken as the limit, and no memory as one.

@@ -6,10 +6,10 @@ ghost use Rattle.modelsheet.specs.Judge.{Judged, faultOf, judgeHeader, judgeSe
 ghost use Rattle.modelsheet.specs.Laid.{Laid, SetsRead, SightsRead, Marks, RecordRead, ChainRead, HeadsRead};
 ghost use Rattle.modelsheet.specs.Says.{Read};
 ghost use Rattle.modelsheet.specs.Sheet.{statesOf, actionsOf, recordsOf, headOf, word};
-use crate::model::MOST_ACTIONS;
-use crate::model::MOST_OBSERVATIONS;
-use crate::model::MOST_STATES;
 use crate::model::Model;
+use environment::MOST_ACTIONS;
+use environment::MOST_OBSERVATIONS;
+use environment::MOST_STATES;
 use faults::ChainFault;
 use faults::Head;
 use faults::SheetFault;

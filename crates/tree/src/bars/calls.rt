@@ -6,10 +6,8 @@ ghost use Rattle.std.specs.Options.{Cases as BySome};
 ghost use Rattle.std.specs.declared.option.Option.the-variants.{Some, None};
 ghost use Rattle.tree.specs.Bars.{barredAt, spot, stands};
 use crate::bars::Bars;
-
-const OBSERVATIONS: u8 = 16;
-
-const ACTIONS: u8 = 8;
+use environment::MOST_ACTIONS;
+use environment::MOST_OBSERVATIONS;
 
 impl Bars {
     // Nothing is barred.
@@ -26,7 +24,7 @@ impl Bars {
         ensures at { λ r. ⌜ r ≡ cond (stands observation action) (Some (spot observation action)) None ⌝ }
         ensures within { λ r. ⌜ BySome r (Unit {0}) (λ k. k < 128) ⌝ }
     {
-        if observation < OBSERVATIONS && action < ACTIONS {
+        if observation < MOST_OBSERVATIONS && action < MOST_ACTIONS {
             Some(observation as usize * 8 + action as usize)
         } else {
             None

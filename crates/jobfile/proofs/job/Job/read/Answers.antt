@@ -21,7 +21,7 @@ returns-in-Break-model c =
     let b = c .args .file .now in
     let p = err-from-errBy (c .from-residual-in-Break-model .result) (c .from-residual-in-Break-model .ensures .1) in
     let sheet = ap judge (sym (the-rest b)) ∙ c .in-Break-model .ensures tt in
-    rw (p .1, p .2) (by-sheet b (c .if-file-lt-LEAST-LENGTH .left) (c .if-bound-eq0 .left) (c .if-bound-gt-LARGEST-BOUND .left) (c .in-Continue-rule .ensures tt .0) ∙ ap (raise inFile) sheet)
+    rw (p .1, p .2) (by-sheet b (c .if-file-lt-LEAST-LENGTH .left) (c .if-bound-eq0 .left) (c .if-bound-gt-MOST-MEMORIES .left) (c .in-Continue-rule .ensures tt .0) ∙ ap (raise inFile) sheet)
 
 pub returns : need.returns
 returns c =
@@ -30,6 +30,6 @@ returns c =
     let r = c .in-Continue-rule .ensures tt in
     let sheet = ap judge (sym (the-rest b)) ∙ h .0 in
     let says = subst (λ (l : List ℕ). Says l (systemOf (c .in-Continue-model .model))) (the-rest b) (h .1) in (
-      by-sheet b (c .if-file-lt-LEAST-LENGTH .left) (c .if-bound-eq0 .left) (c .if-bound-gt-LARGEST-BOUND .left) (r .0) ∙ ap (raise inFile) sheet,
-      record { bound-is = refl; bound-some = omega arith; bound-few = c .if-bound-gt-LARGEST-BOUND .left; rule-is = r .1; model-says = says },
+      by-sheet b (c .if-file-lt-LEAST-LENGTH .left) (c .if-bound-eq0 .left) (c .if-bound-gt-MOST-MEMORIES .left) (r .0) ∙ ap (raise inFile) sheet,
+      record { bound-is = refl; bound-some = omega arith; bound-few = c .if-bound-gt-MOST-MEMORIES .left; rule-is = r .1; model-says = says },
     )

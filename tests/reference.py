@@ -5,6 +5,7 @@ It is written from docs/FORMATS.md and docs/MODEL.md alone, over plain sets, and
 
   tests/reference.py answer    job files in hexadecimal, one a line, on standard input; their reports, each with an empty line after it
   tests/reference.py damage    damaged copies of a job file, in hexadecimal: cut at every byte, too long, and wrong at every byte
+  tests/reference.py lines     job files of the models in `line_jobs`, in hexadecimal
 """
 import sys
 
@@ -179,6 +180,87 @@ def damage(file):
                 yield file[:at] + bytes([value]) + file[at + 1 :]
 
 
+class Line:
+    """A model as functions of states and actions, to be written as a sheet."""
+
+    def __init__(self, actions, observations, initial, goal, sights, outcomes):
+        self.actions, self.observations, self.initial, self.goal = actions, observations, initial, goal
+        self.sights, self.outcomes = sights, outcomes
+        self.states = len(sights)
+
+    def sheet(self):
+        heads, records = [], []
+        for s in range(self.states):
+            for a in range(self.actions):
+                targets = sorted(self.outcomes(s, a))
+                heads.append(len(records) + 1 if targets else 0)
+                for left, target in zip(reversed(range(len(targets))), targets):
+                    records.append((target, len(records) + 2 if left else 0))
+        counts = [77, self.states, self.actions, self.observations, len(records)]
+        masks = [sum(1 << t for t in states).to_bytes(8, "little") for states in (self.initial, self.goal)]
+        return bytes(counts) + masks[0] + masks[1] + bytes(self.sights + heads) + b"".join(map(bytes, records))
+
+
+def single(goal):
+    """One state, in which the one action stays."""
+    return Line(1, 1, {0}, goal, [0], lambda s, a: {0})
+
+
+def jam_station():
+    feed = {0: {1}, 5: {2}}
+    read = {1: {2, 5}, 2: {4}}
+    eject = {2: {3}}
+    return Line(3, 3, {0}, {3}, [0, 1, 1, 2, 1, 0], lambda s, a: (feed, read, eject)[a].get(s, set()))
+
+
+def shuttle(places):
+    """State 2p + f is place p with a bit f, which is set on arriving at the far end; the goal is back at the start with the bit set."""
+    last = places - 1
+
+    def outcomes(s, a):
+        p = s // 2 + (1 if a else -1)
+        return {2 * p + (1 if p == last else s % 2)} if 0 <= p <= last else set()
+
+    sights = [0 if s < 2 else 2 if s // 2 == last else 1 for s in range(2 * places)]
+    return Line(2, 3, {0}, {1}, sights, outcomes)
+
+
+def slip(line):
+    """Each legal action may also leave the state as it is."""
+
+    def outcomes(s, a):
+        led = line.outcomes(s, a)
+        return led | {s} if led else led
+
+    return Line(line.actions, line.observations, line.initial, line.goal, line.sights, outcomes)
+
+
+def pair(one, two):
+    """Two lines side by side, of which one moves at a time."""
+    n = two.states
+
+    def both(x, y):
+        return {s * n + t for s in x for t in y}
+
+    def outcomes(s, a):
+        if a < one.actions:
+            return both(one.outcomes(s // n, a), {s % n})
+        return both({s // n}, two.outcomes(s % n, a - one.actions))
+
+    sights = [o * two.observations + q for o in one.sights for q in two.sights]
+    return Line(one.actions + two.actions, one.observations * two.observations, both(one.initial, two.initial), both(one.goal, two.goal), sights, outcomes)
+
+
+def line_jobs():
+    """Bound, rule and model of some searches, small and large."""
+    strict, patient = 0, 1
+    yield from [(1, strict, single({0})), (1, strict, single(set()))]
+    yield from [(bound, strict, jam_station()) for bound in (1, 2, 3, 4)]
+    yield from [(bound, strict, shuttle(places)) for places in (2, 5, 32) for bound in (1, 2)]
+    yield from [(2, rule, slip(shuttle(places))) for places in (2, 5, 32) for rule in (strict, patient)]
+    yield from [(2, strict, pair(shuttle(2), shuttle(3))), (2, patient, slip(pair(shuttle(2), shuttle(3))))]
+
+
 def main():
     if sys.argv[1:] == ["answer"]:
         for line in sys.stdin:
@@ -186,6 +268,9 @@ def main():
     elif sys.argv[1:] == ["damage"]:
         for file in damage(SHUTTLE):
             print(file.hex())
+    elif sys.argv[1:] == ["lines"]:
+        for bound, rule, line in line_jobs():
+            print((bytes([bound, rule]) + line.sheet()).hex())
     else:
         sys.exit(__doc__)
 

@@ -117,7 +117,7 @@ module _ {E R : Type 0} where
       Kept before after × ((r : Bool) × Back (before .bars) (before .walk) (after .walk) r × (after .phase ≡ cond r Searching Exhausted))
 
   -- one table judged: the case is found, or stands at another table, or has no further one
-  pub record Judged (before after : Case E R) : Type 0 where
+  pub record Stepped (before after : Case E R) : Type 0 where
     pub kept : Kept before after
     pub begun : after .phase ≡ New → ⊥
 

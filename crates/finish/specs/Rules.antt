@@ -24,5 +24,5 @@ abbrev pub AllRest : Demand → Picture → Type 0
 AllRest d p = (m s : ℕ) → Rests d p m s
 
 -- A picture is rejected if a configuration failed or one does not come to rest, and only then.
-abbrev pub Judged : Demand → Picture → Bool → Type 0
-Judged d p r = When r (Spoilt p ⊎ (AllRest d p → ⊥)) (Clean p × AllRest d p)
+abbrev pub RejectedBy : Demand → Picture → Bool → Type 0
+RejectedBy d p r = When r (Spoilt p ⊎ (AllRest d p → ⊥)) (Clean p × AllRest d p)

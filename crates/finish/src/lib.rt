@@ -4,7 +4,7 @@ ghost use mathlib.Core.Path.{_≡_};
 ghost use mathlib.Core.Bool.{true, false};
 ghost use Rattle.std.specs.Orderings.{When};
 ghost use Rattle.picture.specs.declared.settling.Demand.the-variants.{Every, Any};
-ghost use Rattle.finish.specs.Rules.{Clean, Judged, Spoilt};
+ghost use Rattle.finish.specs.Rules.{Clean, RejectedBy, Spoilt};
 use picture::MEMORIES;
 use picture::Picture;
 use picture::settling::Demand;
@@ -36,14 +36,14 @@ fn spoilt(picture: &Picture) -> bool
 // What both rules reject, and what does not come to rest by the rule's own demand. Under `Every` that is a cycle and what leads
 // into one; under `Any` it is what can reach neither an open configuration nor a stop.
 fn rejects(picture: &Picture, demand: Demand) -> bool
-    ensures { λ r. ⌜ Judged demand (now (picture .entry)) r ⌝ }
+    ensures { λ r. ⌜ RejectedBy demand (now (picture .entry)) r ⌝ }
 {
     spoilt(picture) || !picture.rests(demand)
 }
 
 pub impl FinishRule for Strict as StrictRule {
     fn rejected(&self, picture: &Picture) -> bool
-        ensures { λ r. ⌜ Judged Every (now (picture .entry)) r ⌝ }
+        ensures { λ r. ⌜ RejectedBy Every (now (picture .entry)) r ⌝ }
     {
         rejects(picture, Demand::Every)
     }
@@ -51,7 +51,7 @@ pub impl FinishRule for Strict as StrictRule {
 
 pub impl FinishRule for Patient as PatientRule {
     fn rejected(&self, picture: &Picture) -> bool
-        ensures { λ r. ⌜ Judged Any (now (picture .entry)) r ⌝ }
+        ensures { λ r. ⌜ RejectedBy Any (now (picture .entry)) r ⌝ }
     {
         rejects(picture, Demand::Any)
     }

@@ -1,16 +1,15 @@
 -- What holds while a picture is drawn.
-use mathlib.Core.Path.{_≡_, refl, sym, ap, _∙_, subst, subst₂}
-use mathlib.Core.Bool.{Bool, true, false, _&&_, _||_}
+use mathlib.Core.Path.{_≡_, sym, ap, _∙_, subst, subst₂}
+use mathlib.Core.Bool.{true, false, _&&_}
 use mathlib.Core.List.{List, [], _∷_}
 use mathlib.Core.Logic.{_⊎_, inl, inr}
-use Prim.Native.Nat.{ℕ, zero, suc, _^_, _<_}
-use native.Mathlib.Omega.{arith}
+use Prim.Native.Nat.{ℕ, zero, suc, _<_}
 use lib.Bits.{bitOr}
 use lib.Dec.{eqb}
 use lib.ListN.{length, getD, set}
 use Rattle.std.proofs.shelf.Tests.{cases-bool, both-ways, eq-eqb, eqb-true, and-parts, and-from, or-cases, or-left, or-right}
 use Rattle.sets.specs.Mask.{has}
-use Rattle.sets.proofs.Bits.{has-one, has-none}
+use Rattle.sets.proofs.Bits.{has-none}
 use Rattle.environment.specs.System.{System}
 use Rattle.controller.specs.declared.table.Table.{Table}
 use Rattle.picture.specs.declared.Kind.{Kind}
@@ -20,7 +19,7 @@ use Rattle.picture.specs.Drawn.{PictureOf}
 use Rattle.picture.specs.Kinds.{isReached, kindAt}
 use Rattle.picture.specs.Put.{Put}
 use Rattle.picture.specs.Runs.{kindOf, Reached, start, step}
-use Rattle.picture.proofs.Masks.{In, has-set, memory-in}
+use Rattle.picture.proofs.Masks.{In, has-set}
 use Rattle.picture.proofs.Puts.{same, fresh-same}
 
 -- What is marked comes up in runs, the starts are marked; what is drawn is marked and has its kind, and its outcomes are marked.

@@ -1,18 +1,17 @@
 -- More laws of sets of states: the smallest state of a set, what is left of a set without another, and lists of sets, one for each memory.
-use mathlib.Core.Path.{_≡_, refl, sym, ap, ap₂, _∙_, subst}
+use mathlib.Core.Path.{_≡_, refl, sym, ap, _∙_, subst}
 use mathlib.Core.Bool.{Bool, true, false, not, _&&_, _||_}
 use mathlib.Core.List.{List, [], _∷_}
-use mathlib.Core.Logic.{_⊎_, inl, inr, _≢_}
-use Prim.Native.Nat.{ℕ, zero, suc, _+_, _-_, _*_, _/_, _%_, _^_, _<_, _≤_}
+use mathlib.Core.Logic.{inl, inr}
+use Prim.Native.Nat.{ℕ, zero, suc, _+_, _-_, _*_, _/_, _%_, _^_, _<_}
 use native.Mathlib.Omega.{arith}
-use native.Mathlib.Nat.{pow-suc, div-one, lt-of-le-of-lt}
-use lib.Bits.{bitAnd, bitOr, or-disjoint, and-le-l, and-le-r}
+use native.Mathlib.Nat.{pow-suc, div-one}
+use lib.Bits.{bitAnd, bitOr, or-disjoint, and-le-l}
 use lib.Count.{trailingZeros, under}
 use lib.Dec.{eqb}
 use lib.ListN.{length, getD, set}
 use lib.Pow.{pow-pos}
-use Rattle.std.proofs.shelf.Tests.{cases-eq, cases-lt, cases-bool, both-ways, eq-eqb, ne-eqb, eqb-true, not-from-true, not-from-false, not-true, and-parts, and-from, and-left, and-right, or-cases, or-left, or-right}
-use Rattle.std.proofs.shelf.Bits.{pow-below}
+use Rattle.std.proofs.shelf.Tests.{cases-eq, cases-lt, cases-bool, both-ways, eq-eqb, ne-eqb, not-from-false, not-true, and-parts, and-from, and-left, and-right}
 use Rattle.std.proofs.shelf.Lists.{getD-set-same, getD-set-other, getD-past}
 use Rattle.std.proofs.shelf.Sums.{sumBy-set}
 use Rattle.std.specs.shelf.Lists.{sumBy}

@@ -1,11 +1,12 @@
 -- What it does to the waiting configurations that one of them waits no more.
-use mathlib.Core.Path.{_≡_, refl, sym, ap, ap₂, _∙_, subst, subst₂}
+use mathlib.Core.Path.{_≡_, refl, sym, ap, _∙_, subst, subst₂}
 use mathlib.Core.Bool.{Bool, true, false, not, _&&_, _||_}
 use mathlib.Core.List.{List, [], _∷_}
-use mathlib.Core.Logic.{_⊎_, inl, inr, _≢_}
-use Prim.Native.Nat.{ℕ, zero, suc, _+_, _-_, _*_, _%_, _^_, _<_, _≤_}
+use mathlib.Core.Logic.{_⊎_, inl, inr}
+use Prim.Native.Nat.{ℕ, zero, suc, _-_, _*_, _%_, _^_, _<_}
 use native.Mathlib.Omega.{arith}
 use lib.Bits.{bitAnd, bitOr, and-le-l}
+use lib.Count.{trailingZeros}
 use lib.Dec.{eqb}
 use lib.ListN.{length, getD, set}
 use Rattle.std.proofs.shelf.Tests.{cases-bool, cases-eq, both-ways, eq-eqb, ne-eqb, eqb-true, eqb-false, and-parts, and-from, and-left, and-right, not-true, not-false, not-from-true, not-from-false}
@@ -20,7 +21,6 @@ use Rattle.picture.specs.declared.settling.Demand.the-variants.{Every, Any}
 use Rattle.picture.specs.Kinds.{isReached, isMoving, nextOf, outcomesOf}
 use Rattle.picture.specs.Settling.{Rests, still, every, one, met, ready, Waits, weight, Swept}
 use Rattle.picture.proofs.Masks.{without, has-without, left-none, left-some, smallest}
-use Rattle.picture.proofs.Puts.{same, same-self}
 
 or-neither : (a b : Bool) → (a || b) ≡ false → (a ≡ false) × (b ≡ false)
 or-neither true b h = absurd (both-ways true h refl)
@@ -57,6 +57,10 @@ module _ (x s : ℕ) (fit : x < 2 ^ 64) (st : s < 64) where
     | inl e ↦ absurd (both-ways _ cleared-self (ap (λ (y : ℕ). has y s) e ∙ h))
     | inr ne ↦ omega (arith, and-le-l x (2 ^ 64 - 1 - (1 * 2 ^ s) % 2 ^ 64))
   ]
+
+-- a loop over the states of a set, the smallest first, ends
+pub first-falls : (x : ℕ) → 0 < x → x < 2 ^ 64 → cleared x (trailingZeros 64 x) < x
+first-falls x some fit = let t = smallest 64 x some fit in cleared-lt x (trailingZeros 64 x) fit (t .below) (t .here)
 
 -- one of the sets has lost a state
 module _ (xs : List ℕ) (m s : ℕ) (lt : m < length xs) (fit : getD xs m 0 < 2 ^ 64) (st : s < 64) where

@@ -1,7 +1,7 @@
 ghost use mathlib.Core.Path.{_≡_};
 ghost use Rattle.std.specs.Results.{Cases};
 ghost use Rattle.std.specs.declared.option.Option.the-variants.{Some, None};
-ghost use Rattle.case.specs.Calls.{refusal, Advanced, Judged, Left, Retreated};
+ghost use Rattle.case.specs.Calls.{refusal, Advanced, Stepped, Left, Retreated};
 ghost use Rattle.case.specs.declared.case.Call.the-variants.{Advance as advancing, Next as leaving};
 ghost use Rattle.case.specs.declared.case.Phase.the-variants.{Searching};
 use crate::case::Advance;
@@ -27,7 +27,7 @@ impl<E: Environment, R: FinishRule> Case<E, R> {
     // Judges the table that the walk stands at: it meets the rule, or the walk goes on to the next one, below it or behind it.
     fn judge(&mut self)
         requires { ⌜ now self .phase ≡ Searching ⌝ }
-        ensures { λ _. ⌜ Judged (now (self .entry)) (now (self .exit)) ⌝ }
+        ensures { λ _. ⌜ Stepped (now (self .entry)) (now (self .exit)) ⌝ }
     {
         self.picture.draw(&self.environment, &self.walk.table);
         if self.rule.rejected(&self.picture) {

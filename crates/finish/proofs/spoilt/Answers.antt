@@ -1,7 +1,7 @@
-use mathlib.Core.Path.{_≡_, refl, sym, ap, ap₂, _∙_, subst}
-use mathlib.Core.Bool.{Bool, true, false, _||_}
+use mathlib.Core.Path.{_≡_, sym, ap, ap₂, _∙_, subst}
+use mathlib.Core.Bool.{false, _||_}
 use mathlib.Core.Logic.{inl, inr}
-use Prim.Native.Nat.{ℕ, _^_, _<_}
+use Prim.Native.Nat.{ℕ, _<_}
 use native.Mathlib.Omega.{arith}
 use lib.Bits.{bitOr}
 use lib.Count.{trailingZeros}
@@ -11,7 +11,7 @@ use Rattle.std.proofs.shelf.Tests.{cases-eq, cases-lt, cases-bool}
 use Rattle.sets.specs.Mask.{has}
 use Rattle.sets.proofs.Bits.{has-or, has-none}
 use Rattle.picture.specs.declared.Picture.{Picture}
-use Rattle.picture.specs.Kinds.{isReached, isOffGoal, isStuck}
+use Rattle.picture.specs.Kinds.{isReached}
 use Rattle.picture.proofs.Masks.{smallest}
 use Rattle.picture.proofs.Puts.{unmarked}
 use Rattle.finish.specs.Rules.{failed}

@@ -1,11 +1,9 @@
-use mathlib.Core.Path.{_≡_, refl, sym, ap, _∙_, subst}
-use Prim.Native.Nat.{ℕ, _+_, _-_, _*_, _%_, _^_, _<_, _≤_}
+use Prim.Native.Nat.{ℕ, _-_, _^_, _<_}
 use native.Mathlib.Omega.{arith}
-use lib.Bits.{and-le-l}
 use lib.Count.{trailingZeros}
 use Rattle.sets.proofs.Bits.{has-in}
 use Rattle.picture.proofs.Masks.{smallest}
-use Rattle.picture.proofs.Sweeps.{cleared, cleared-lt}
+use Rattle.picture.proofs.Sweeps.{first-falls}
 use Rattle.measure.proofs.loads.greatest.Needs as need
 
 -- the smallest state of a set of states below a count is below the count
@@ -30,17 +28,14 @@ offset-loads-base-in-loop-left g c = let t = least-lt (c .loop-left .left) (c .a
 pub index-loads-base-in-loop-left : need.index-loads-base-in-loop-left
 index-loads-base-in-loop-left g c = let t = least-lt (c .loop-left .left) (c .args .states) (omega arith) (c .loop-left .inv .0) (omega arith) in omega arith
 
-falls : (x : ℕ) → 0 < x → x < 2 ^ 64 → cleared x (trailingZeros 64 x) < x
-falls x some fit = let t = smallest 64 x some fit in cleared-lt x (trailingZeros 64 x) fit (t .below) (t .here)
-
 pub loop-left-less-then-not-at-most : need.loop-left-less-then-not-at-most
-loop-left-less-then-not-at-most g c = falls (c .loop-left .left) (omega arith) (c .loop-left .inv .0)
+loop-left-less-then-not-at-most g c = first-falls (c .loop-left .left) (omega arith) (c .loop-left .inv .0)
 
 pub loop-left-less : need.loop-left-less
-loop-left-less g c = falls (c .loop-left .left) (omega arith) (c .loop-left .inv .0)
+loop-left-less g c = first-falls (c .loop-left .left) (omega arith) (c .loop-left .inv .0)
 
 pub loop-left-again-then-not-at-most : need.loop-left-again-then-not-at-most
-loop-left-again-then-not-at-most g c = let t = falls (c .loop-left .left) (omega arith) (c .loop-left .inv .0) in (omega arith, omega arith)
+loop-left-again-then-not-at-most g c = let t = first-falls (c .loop-left .left) (omega arith) (c .loop-left .inv .0) in (omega arith, omega arith)
 
 pub loop-left-again : need.loop-left-again
-loop-left-again g c = let t = falls (c .loop-left .left) (omega arith) (c .loop-left .inv .0) in (omega arith, omega arith)
+loop-left-again g c = let t = first-falls (c .loop-left .left) (omega arith) (c .loop-left .inv .0) in (omega arith, omega arith)

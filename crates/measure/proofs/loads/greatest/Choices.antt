@@ -1,4 +1,4 @@
-use Prim.Native.Nat.{ℕ, _^_, _<_, _≤_}
+use Prim.Native.Nat.{_^_, _<_, _≤_}
 use Rattle.measure.proofs.loads.greatest.Given as given
 
 abbrev pub Inv-loop-left : given.InvT-loop-left

@@ -1,11 +1,8 @@
-use mathlib.Core.Path.{_≡_, refl, sym, ap, _∙_, subst}
-use mathlib.Core.List.{List, [], _∷_}
-use Prim.Native.Nat.{ℕ, _<_}
+use mathlib.Core.Path.{refl, _∙_}
 use native.Mathlib.Omega.{arith}
-use lib.ListN.{length}
 use Rattle.std.proofs.shelf.Lists.{length-set}
 use Rattle.std.proofs.shelf.Tests.{both-ways}
-use Rattle.picture.proofs.Live.{Live, live-none, live-rests, live-moves, live-all}
+use Rattle.picture.proofs.Live.{live-none, live-rests, live-moves, live-all}
 use Rattle.picture.proofs.Masks.{none-in}
 use Rattle.picture.proofs.Picture.draw.Needs as need
 

@@ -1,14 +1,12 @@
-use mathlib.Core.Path.{_≡_, sym, ap, _∙_, subst}
-use mathlib.Core.Bool.{true, false}
+use mathlib.Core.Path.{_≡_, ap, _∙_}
 use mathlib.Core.Logic.{inl, inr}
-use Prim.Native.Nat.{ℕ, _+_, _*_, _^_, _<_}
+use Prim.Native.Nat.{ℕ}
 use native.Mathlib.Omega.{arith}
 use lib.ListN.{getD}
 use Rattle.std.proofs.shelf.Lists.{getD-past}
 use Rattle.std.proofs.shelf.Tests.{cases-lt, cases-eq}
 use Rattle.sets.specs.Mask.{has}
 use Rattle.sets.proofs.Bits.{has-none}
-use Rattle.picture.specs.Kinds.{isOpen}
 use Rattle.picture.proofs.Masks.{smallest}
 use Rattle.picture.proofs.Picture.first_open.Needs as need
 

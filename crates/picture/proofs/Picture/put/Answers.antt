@@ -1,14 +1,10 @@
-use mathlib.Core.Path.{_≡_, refl, sym, ap, _∙_, subst}
-use mathlib.Core.Bool.{Bool, true, false}
-use Prim.Native.Nat.{ℕ, _+_, _*_, _^_, _<_}
+use mathlib.Core.Path.{sym, subst}
+use Prim.Native.Nat.{_+_, _*_, _^_}
 use native.Mathlib.Omega.{arith}
-use lib.Bits.{bitOr}
-use lib.ListN.{getD, set, length}
-use Rattle.std.proofs.shelf.Bits.{one-shl}
+use lib.ListN.{getD}
 use Rattle.std.proofs.shelf.Lists.{getD-set-same, getD-set-other}
 use Rattle.sets.specs.Mask.{has}
 use Rattle.picture.specs.declared.Kind.{Kind}
-use Rattle.picture.specs.Kinds.{kindAt}
 use Rattle.picture.specs.Runs.{OfReached}
 use Rattle.picture.proofs.Puts.{same, reached-more, grown-has, grown-here, grown-there, unmarked, other-place, grown-bounded, kept-below, more-open, more-in-goal, more-off-goal, more-stuck, more-moving, fresh-same}
 use Rattle.picture.proofs.Picture.put.Needs as need

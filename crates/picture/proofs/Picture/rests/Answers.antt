@@ -1,12 +1,12 @@
-use mathlib.Core.Path.{_≡_, refl, sym, ap, _∙_, subst}
-use mathlib.Core.Bool.{true, false}
+use mathlib.Core.Path.{_≡_, refl, sym, _∙_, subst}
+use mathlib.Core.Bool.{true}
 use mathlib.Core.List.{List}
 use Prim.Native.Nat.{ℕ}
 use native.Mathlib.Omega.{arith}
-use lib.ListN.{length, getD}
+use lib.ListN.{getD}
 use Rattle.std.proofs.shelf.Tests.{eqb-true, eq-eqb}
 use Rattle.sets.specs.Mask.{has}
-use Rattle.picture.specs.Settling.{Rests, still, Waits}
+use Rattle.picture.specs.Settling.{still, Waits}
 use Rattle.picture.proofs.Sweeps.{four-moving, four-none, none-four, waits-on}
 use Rattle.picture.proofs.Picture.rests.Needs as need
 

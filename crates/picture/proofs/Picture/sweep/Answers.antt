@@ -1,13 +1,13 @@
-use mathlib.Core.Path.{_≡_, refl, sym, ap, _∙_, subst}
-use mathlib.Core.Bool.{Bool, true, false}
+use mathlib.Core.Path.{_≡_, sym, _∙_, subst}
+use mathlib.Core.Bool.{true, false}
 use mathlib.Core.List.{List}
 use mathlib.Core.Logic.{inl, inr}
-use Prim.Native.Nat.{ℕ, _+_, _<_}
+use Prim.Native.Nat.{ℕ, _<_}
 use native.Mathlib.Omega.{arith}
-use lib.ListN.{length, getD}
+use lib.ListN.{getD}
 use Rattle.std.proofs.shelf.Tests.{cases-eq, true≢false}
 use Rattle.sets.specs.Mask.{has}
-use Rattle.picture.specs.Settling.{Waits, weight, Swept}
+use Rattle.picture.specs.Settling.{Waits, weight}
 use Rattle.picture.proofs.Masks.{memory-in}
 use Rattle.picture.proofs.Sweeps.{swept-both}
 use Rattle.picture.proofs.Picture.sweep.Needs as need

@@ -1,7 +1,7 @@
 use mathlib.Core.Path.{_≡_}
 use mathlib.Core.Bool.{true, false}
 use Prim.Native.Nat.{ℕ, _<_}
-use lib.ListN.{length, getD}
+use lib.ListN.{getD}
 use Rattle.sets.specs.Mask.{has}
 use Rattle.picture.specs.Settling.{Waits, weight, Swept}
 use Rattle.picture.proofs.Picture.sweep.Given as given

@@ -17,6 +17,8 @@ use Rattle.refusals.specs.Range.{outside}
 use Rattle.controller.specs.declared.entry.Entry.the-variants.{Blank}
 use Rattle.controller.specs.declared.table.Table.{Table}
 use Rattle.measure.specs.Refused.{size, Loaded, Refused}
+use Rattle.picture.specs.Drawn.{PictureOf}
+use Rattle.picture.specs.Kinds.{isOpen}
 use Rattle.tree.specs.Bars.{barredAt}
 use Rattle.tree.specs.Walks.{Back}
 use Rattle.case.specs.declared.case.Phase.{Phase}
@@ -116,19 +118,27 @@ module _ {E R : Type 0} where
   Retreated before after =
       Kept before after × ((r : Bool) × Back (before .bars) (before .walk) (after .walk) r × (after .phase ≡ cond r Searching Exhausted))
 
-  -- one table judged: the case is found, or stands at another table, or has no further one
-  pub record Stepped (before after : Case E R) : Type 0 where
+  -- the case has the picture of its table, in which no reached configuration is open
+  pub record Closed (x : System) (c : Case E R) : Type 0 where
+    pub drawn : PictureOf x (c .walk .table) (c .picture)
+    pub none-open : (m s : ℕ) → isOpen (c .picture) m s ≡ false
+
+  -- one table judged: the case is found at a closed table, or stands at another table, or has no further one
+  pub record Stepped (x : System) (before after : Case E R) : Type 0 where
     pub kept : Kept before after
     pub begun : after .phase ≡ New → ⊥
+    pub found : after .phase ≡ Found → Closed x after
 
-  -- an accepted advance answers the state that it leaves, and judges 1 to `amount` tables, all of them where it goes on searching
-  pub record Advanced (amount : ℕ) (answer : Answer) (before after : Case E R) : Type 0 where
+  -- an accepted advance answers the state that it leaves, and judges 1 to `amount` tables, all of them where it goes on searching; a found
+  -- table is closed
+  pub record Advanced (x : System) (amount : ℕ) (answer : Answer) (before after : Case E R) : Type 0 where
     pub kept : Kept before after
     pub told : answer .phase ≡ after .phase
     pub some : 1 ≤ answer .judged
     pub few : answer .judged ≤ amount
     pub whole : after .phase ≡ Searching → answer .judged ≡ amount
     pub begun : after .phase ≡ New → ⊥
+    pub found : after .phase ≡ Found → Closed x after
 
   -- an accepted next leaves the found table, and answers the state that it comes to
   pub record Left (answer : Phase) (before after : Case E R) : Type 0 where

@@ -27,7 +27,7 @@ impl<E: Environment, R: FinishRule> Case<E, R> {
     // Judges the table that the walk stands at: it meets the rule, or the walk goes on to the next one, below it or behind it.
     fn judge(&mut self)
         requires { ⌜ now self .phase ≡ Searching ⌝ }
-        ensures { λ _. ⌜ Stepped (now (self .entry)) (now (self .exit)) ⌝ }
+        ensures { λ _. ⌜ Stepped (E·Environment .meaning (now (self .entry) .environment)) (now (self .entry)) (now (self .exit)) ⌝ }
     {
         self.picture.draw(&self.environment, &self.walk.table);
         if self.rule.rejected(&self.picture) {
@@ -47,7 +47,7 @@ impl<E: Environment, R: FinishRule> Case<E, R> {
 
     // Judges tables in the order of the tree: up to one that meets the rule, or to the last one, or as many as the amount.
     pub fn advance(&mut self, amount: u32) -> Result<Advance, Refusal>
-        ensures { λ r. ⌜ Cases r (λ a. (refusal (E·Environment .meaning (now (self .entry) .environment)) (now (self .entry) .phase) (advancing amount) ≡ None) × Advanced amount a (now (self .entry)) (now (self .exit))) (λ e. (refusal (E·Environment .meaning (now (self .entry) .environment)) (now (self .entry) .phase) (advancing amount) ≡ Some e) × (now (self .exit) ≡ now (self .entry))) ⌝ }
+        ensures { λ r. ⌜ Cases r (λ a. (refusal (E·Environment .meaning (now (self .entry) .environment)) (now (self .entry) .phase) (advancing amount) ≡ None) × Advanced (E·Environment .meaning (now (self .entry) .environment)) amount a (now (self .entry)) (now (self .exit))) (λ e. (refusal (E·Environment .meaning (now (self .entry) .environment)) (now (self .entry) .phase) (advancing amount) ≡ Some e) × (now (self .exit) ≡ now (self .entry))) ⌝ }
     {
         self.admit(Call::Advance { amount })?;
         let mut judged = 0;

@@ -16,6 +16,7 @@ use Rattle.refusals.specs.declared.Refusal.the-variants as refuse
 use Rattle.refusals.specs.Range.{outside}
 use Rattle.controller.specs.declared.entry.Entry.the-variants.{Blank}
 use Rattle.controller.specs.declared.table.Table.{Table}
+use Rattle.controller.specs.Tables.{SameCounts}
 use Rattle.measure.specs.Refused.{size, Loaded, Refused}
 use Rattle.picture.specs.Drawn.{PictureOf}
 use Rattle.picture.specs.Kinds.{isOpen}
@@ -107,11 +108,12 @@ module _ {E R : Type 0} where
     pub root : after .walk .table .entries ≡ replicate 64 Blank
     pub fresh : after .walk .depth ≡ 0
 
-  -- what stays over an advance and a next
+  -- what stays over an advance and a next: the table too has as many memories, over one alphabet
   pub record Kept (before after : Case E R) : Type 0 where
     pub same-environment : after .environment ≡ before .environment
     pub same-rule : after .rule ≡ before .rule
     pub same-bars : after .bars ≡ before .bars
+    pub same-counts : SameCounts (before .walk .table) (after .walk .table)
 
   -- the walk goes to the next table that does not lie below this one, and the case is searching; where there is none, it is exhausted
   abbrev pub Retreated : Case E R → Case E R → Type 0

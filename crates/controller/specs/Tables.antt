@@ -26,9 +26,13 @@ place t m o = m * t .observations + o
 abbrev pub entryAt : Table → ℕ → ℕ → Entry
 entryAt t m o = cond (inside t m o) (readAs t (getD (t .entries) (place t m o) Blank)) Blank
 
+-- Two tables of as many memories, over one alphabet.
+pub record SameCounts (one other : Table) : Type 0 where
+  pub memories : other .memories ≡ one .memories
+  pub actions : other .actions ≡ one .actions
+  pub observations : other .observations ≡ one .observations
+
 -- A write puts e at (m, o), if the table has that entry, and changes nothing else.
 pub record Written (m o : ℕ) (e : Entry) (before after : Table) : Type 0 where
-  pub memories : after .memories ≡ before .memories
-  pub actions : after .actions ≡ before .actions
-  pub observations : after .observations ≡ before .observations
+  pub counts : SameCounts before after
   pub entries : after .entries ≡ cond (inside before m o) (set (before .entries) (place before m o) e) (before .entries)

@@ -5,7 +5,7 @@ use mathlib.Core.Logic.{_⊎_}
 use Prim.Native.Nat.{ℕ}
 use Rattle.std.specs.Orderings.{When}
 use Rattle.picture.specs.declared.Picture.{Picture}
-use Rattle.picture.specs.declared.settling.Demand.{Demand}
+use Rattle.picture.specs.declared.settling.Quorum.{Quorum}
 use Rattle.picture.specs.Kinds.{isOffGoal, isStuck}
 use Rattle.picture.specs.Settling.{Rests}
 
@@ -20,9 +20,9 @@ abbrev pub Clean : Picture → Type 0
 Clean p = (m s : ℕ) → failed p m s ≡ false
 
 -- Every configuration comes to rest, where a moving one does so once every outcome does, or any one.
-abbrev pub AllRest : Demand → Picture → Type 0
+abbrev pub AllRest : Quorum → Picture → Type 0
 AllRest d p = (m s : ℕ) → Rests d p m s
 
 -- A picture is rejected if a configuration failed or one does not come to rest, and only then.
-abbrev pub RejectedBy : Demand → Picture → Bool → Type 0
+abbrev pub RejectedBy : Quorum → Picture → Bool → Type 0
 RejectedBy d p r = When r (Spoilt p ⊎ (AllRest d p → ⊥)) (Clean p × AllRest d p)

@@ -3,11 +3,11 @@
 ghost use mathlib.Core.Path.{_≡_};
 ghost use mathlib.Core.Bool.{true, false};
 ghost use Rattle.std.specs.Orderings.{When};
-ghost use Rattle.picture.specs.declared.settling.Demand.the-variants.{Every, Any};
+ghost use Rattle.picture.specs.declared.settling.Quorum.the-variants.{Every, Any};
 ghost use Rattle.finish.specs.Rules.{Clean, RejectedBy, Spoilt};
 use picture::MEMORIES;
 use picture::Picture;
-use picture::settling::Demand;
+use picture::settling::Quorum;
 
 pub trait FinishRule {
     fn rejected(&self, picture: &Picture) -> bool;
@@ -33,19 +33,19 @@ fn spoilt(picture: &Picture) -> bool
     false
 }
 
-// What both rules reject, and what does not come to rest by the rule's own demand. Under `Every` that is a cycle and what leads
+// What both rules reject, and what does not come to rest by the rule's own quorum. Under `Every` that is a cycle and what leads
 // into one; under `Any` it is what can reach neither an open configuration nor a stop.
-fn rejects(picture: &Picture, demand: Demand) -> bool
-    ensures { λ r. ⌜ RejectedBy demand (now (picture .entry)) r ⌝ }
+fn rejects(picture: &Picture, quorum: Quorum) -> bool
+    ensures { λ r. ⌜ RejectedBy quorum (now (picture .entry)) r ⌝ }
 {
-    spoilt(picture) || !picture.rests(demand)
+    spoilt(picture) || !picture.rests(quorum)
 }
 
 pub impl FinishRule for Strict as StrictRule {
     fn rejected(&self, picture: &Picture) -> bool
         ensures { λ r. ⌜ RejectedBy Every (now (picture .entry)) r ⌝ }
     {
-        rejects(picture, Demand::Every)
+        rejects(picture, Quorum::Every)
     }
 }
 
@@ -53,6 +53,6 @@ pub impl FinishRule for Patient as PatientRule {
     fn rejected(&self, picture: &Picture) -> bool
         ensures { λ r. ⌜ RejectedBy Any (now (picture .entry)) r ⌝ }
     {
-        rejects(picture, Demand::Any)
+        rejects(picture, Quorum::Any)
     }
 }

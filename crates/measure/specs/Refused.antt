@@ -9,7 +9,7 @@ use Rattle.controller.specs.declared.table.Table.{Table}
 use Rattle.refusals.specs.declared.Refusal.{Refusal}
 use Rattle.refusals.specs.declared.Refusal.the-variants.{FewLoads, Cycle}
 use Rattle.picture.specs.declared.Picture.{Picture}
-use Rattle.picture.specs.declared.settling.Demand.the-variants.{Every}
+use Rattle.picture.specs.declared.settling.Quorum.the-variants.{Every}
 use Rattle.picture.specs.Settling.{Rests}
 
 -- How many configurations a table has in a system.

@@ -14,7 +14,7 @@ use picture::Configuration;
 use picture::Kind;
 use picture::MEMORIES;
 use picture::Picture;
-use picture::settling::Demand;
+use picture::settling::Quorum;
 use refusals::Refusal;
 
 // The set of the states below a count.
@@ -167,7 +167,7 @@ pub fn worst<M: Measure, E: Environment>(
     if loads.len() < table.memories() as usize * states as usize {
         return Err(Refusal::FewLoads);
     }
-    if !picture.rests(Demand::Every) {
+    if !picture.rests(Quorum::Every) {
         return Err(Refusal::Cycle);
     }
     settle(measure, environment, table, picture, loads);

@@ -16,8 +16,8 @@ use Rattle.std.proofs.shelf.Sums.{sumBy-set}
 use Rattle.sets.specs.Mask.{has}
 use Rattle.sets.proofs.Bits.{has-one, has-or, has-and, has-none, same-set}
 use Rattle.picture.specs.declared.Picture.{Picture}
-use Rattle.picture.specs.declared.settling.Demand.{Demand}
-use Rattle.picture.specs.declared.settling.Demand.the-variants.{Every, Any}
+use Rattle.picture.specs.declared.settling.Quorum.{Quorum}
+use Rattle.picture.specs.declared.settling.Quorum.the-variants.{Every, Any}
 use Rattle.picture.specs.Kinds.{isReached, isMoving, nextOf, outcomesOf}
 use Rattle.picture.specs.Settling.{Rests, still, every, one, met, ready, Waits, weight, Swept}
 use Rattle.picture.proofs.Masks.{without, has-without, left-none, left-some, smallest}
@@ -83,8 +83,8 @@ module _ (xs : List ℕ) (m s : ℕ) (lt : m < length xs) (fit : getD xs m 0 < 2
   pub taken-lt : has (getD xs m 0) s ≡ true → weight (set xs m (cleared (getD xs m 0) s)) < weight xs
   taken-lt h = let p = sumBy-set (λ x. x) xs m (cleared (getD xs m 0) s) 0 lt in omega (arith, p, cleared-lt (getD xs m 0) s fit st h)
 
--- whose demand is met comes to rest, if all that do not wait do
-pub met-rests : (d : Demand) (p : Picture) (sets : List ℕ) (m s : ℕ) → outcomesOf p m s < 2 ^ 64 → getD sets (nextOf p m s) 0 < 2 ^ 64
+-- whose quorum is met comes to rest, if all that do not wait do
+pub met-rests : (d : Quorum) (p : Picture) (sets : List ℕ) (m s : ℕ) → outcomesOf p m s < 2 ^ 64 → getD sets (nextOf p m s) 0 < 2 ^ 64
     → ((n t : ℕ) → has (getD sets n 0) t ≡ false → Rests d p n t) → ready d p sets m s ≡ true → Rests d p m s
 met-rests Every p sets m s fo fw all h = every refl (λ u hu. all (nextOf p m s) u (apart u hu))
   where
@@ -101,8 +101,8 @@ met-rests Any p sets m s fo fw all h =
     let t = left-some o w fo fw (omega (arith, ne)) in
     one {m = m} {s = s} refl (t .1) (all (nextOf p m s) _ (t .2))
 
--- whose demand is not met has to wait
-pub unmet-waits : (d : Demand) (p : Picture) (sets : List ℕ) (m s : ℕ) → outcomesOf p m s < 2 ^ 64 → getD sets (nextOf p m s) 0 < 2 ^ 64 → ready d p sets m s ≡ false → Waits d p sets m s
+-- whose quorum is not met has to wait
+pub unmet-waits : (d : Quorum) (p : Picture) (sets : List ℕ) (m s : ℕ) → outcomesOf p m s < 2 ^ 64 → getD sets (nextOf p m s) 0 < 2 ^ 64 → ready d p sets m s ≡ false → Waits d p sets m s
 unmet-waits Every p sets m s fo fw h =
     let o = outcomesOf p m s in
     let w = getD sets (nextOf p m s) 0 in
@@ -114,11 +114,11 @@ unmet-waits Any p sets m s fo fw h = λ u hu. left-none (outcomesOf p m s) (getD
 
 -- where only what moves waits, and all that waits has to, it does not come to rest
 module _ (p : Picture) (sets : List ℕ) (moves : (m s : ℕ) → has (getD sets m 0) s ≡ true → isMoving p m s ≡ true) where
-  pub waits-on : (d : Demand) → ((m s : ℕ) → has (getD sets m 0) s ≡ true → Waits d p sets m s) → {m s : ℕ} → Rests d p m s → has (getD sets m 0) s ≡ true → ⊥
+  pub waits-on : (d : Quorum) → ((m s : ℕ) → has (getD sets m 0) s ≡ true → Waits d p sets m s) → {m s : ℕ} → Rests d p m s → has (getD sets m 0) s ≡ true → ⊥
   waits-on d waits (still {m} {s} n) h = both-ways _ n (moves m s h)
   waits-on d waits (every {m} {s} e all) h =
-      let w = subst (λ (x : Demand). Waits x p sets m s) e (waits m s h) in waits-on d waits (all (w .0) (w .1)) (w .2)
-  waits-on d waits (one {m} {s} {u} e hu r) h = waits-on d waits r (subst (λ (x : Demand). Waits x p sets m s) e (waits m s h) u hu)
+      let w = subst (λ (x : Quorum). Waits x p sets m s) e (waits m s h) in waits-on d waits (all (w .0) (w .1)) (w .2)
+  waits-on d waits (one {m} {s} {u} e hu r) h = waits-on d waits r (subst (λ (x : Quorum). Waits x p sets m s) e (waits m s h) u hu)
 
 -- four sets of what moves, one for each memory
 pub four-moving : (p : Picture) (a b c e : ℕ)
@@ -155,10 +155,10 @@ none-four xs len z m s = by m
     by (suc (suc (suc (suc m)))) = ap (λ (x : ℕ). has x s) (getD-past xs (suc (suc (suc (suc m)))) 0 (omega arith)) ∙ has-none s
 
 -- nothing was taken out yet
-pub swept-none : (d : Demand) (p : Picture) (sets : List ℕ) → Swept d p sets sets
+pub swept-none : (d : Quorum) (p : Picture) (sets : List ℕ) → Swept d p sets sets
 swept-none d p sets = record { fewer = λ m s h. h; sound = λ all. all; lighter = omega arith }
 
-pub swept-both : (d : Demand) (p : Picture) (xs bs cs : List ℕ) → Swept d p xs bs → Swept d p bs cs → Swept d p xs cs
+pub swept-both : (d : Quorum) (p : Picture) (xs bs cs : List ℕ) → Swept d p xs bs → Swept d p bs cs → Swept d p xs cs
 swept-both d p xs bs cs x y = record {
   fewer = λ m s h. x .fewer m s (y .fewer m s h);
   sound = λ all. y .sound (x .sound all);
@@ -166,7 +166,7 @@ swept-both d p xs bs cs x y = record {
 }
 
 -- one more was taken out
-module _ (d : Demand) (p : Picture) (xs bs : List ℕ) (m s : ℕ) (w : Swept d p xs bs) (lt : m < length bs) (fit : getD bs m 0 < 2 ^ 64) (st : s < 64) (here : has (getD bs m 0) s ≡ true) where
+module _ (d : Quorum) (p : Picture) (xs bs : List ℕ) (m s : ℕ) (w : Swept d p xs bs) (lt : m < length bs) (fit : getD bs m 0 < 2 ^ 64) (st : s < 64) (here : has (getD bs m 0) s ≡ true) where
   pub swept-more : outcomesOf p m s < 2 ^ 64 → getD bs (nextOf p m s) 0 < 2 ^ 64 → ready d p bs m s ≡ true → Swept d p xs (set bs m (cleared (getD bs m 0) s))
   swept-more fo fw r = record {
     fewer = λ n t h. w .fewer n t (taken-in bs m s lt fit st n t h);

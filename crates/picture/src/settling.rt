@@ -11,31 +11,31 @@ use crate::STATES;
 
 // How many of its outcomes a moving configuration waits for.
 #[derive(Clone, Copy, Debug, PartialEq, Eq)]
-pub enum Demand {
+pub enum Quorum {
     Every,
     Any,
 }
 
-impl Demand {
+impl Quorum {
     // Need a move with these outcomes wait no more, where `waiting` is what still waits at its next memory?
     fn met(self, outcomes: u64, waiting: u64) -> bool
         ensures { λ r. ⌜ r ≡ met self outcomes waiting ⌝ }
     {
         match self {
-            Demand::Every => outcomes & waiting == 0,
-            Demand::Any => outcomes & !waiting != 0,
+            Quorum::Every => outcomes & waiting == 0,
+            Quorum::Any => outcomes & !waiting != 0,
         }
     }
 }
 
 impl Picture {
-    // Goes once through the waiting configurations of one memory and takes out those whose demand is met; says whether any was.
-    fn sweep_memory(&self, demand: Demand, waiting: &mut [u64; 4], memory: usize) -> bool
+    // Goes once through the waiting configurations of one memory and takes out those whose quorum is met; says whether any was.
+    fn sweep_memory(&self, quorum: Quorum, waiting: &mut [u64; 4], memory: usize) -> bool
         requires { ⌜ memory < 4 ⌝ }
-        ensures swept { λ _. ⌜ Swept demand (now (self .entry)) (now (waiting .entry)) (now (waiting .exit)) ⌝ }
+        ensures swept { λ _. ⌜ Swept quorum (now (self .entry)) (now (waiting .entry)) (now (waiting .exit)) ⌝ }
         ensures less { λ r. ⌜ (r ≡ true → weight (now (waiting .exit)) < weight (now (waiting .entry))) ⌝ }
         ensures same { λ r. ⌜ (r ≡ false → now (waiting .exit) ≡ now (waiting .entry)) ⌝ }
-        ensures waits { λ r. ⌜ (r ≡ false → (s : ℕ) → has (getD (now (waiting .entry)) memory 0) s ≡ true → Waits demand (now (self .entry)) (now (waiting .entry)) memory s) ⌝ }
+        ensures waits { λ r. ⌜ (r ≡ false → (s : ℕ) → has (getD (now (waiting .entry)) memory 0) s ≡ true → Waits quorum (now (self .entry)) (now (waiting .entry)) memory s) ⌝ }
     {
         let mut more = false;
         let mut left = waiting[memory];
@@ -44,7 +44,7 @@ impl Picture {
             let bit = 1u64 << state;
             left &= !bit;
             let place = memory * STATES + state as usize;
-            if demand.met(self.outcomes[place], waiting[self.nexts[place] as usize]) {
+            if quorum.met(self.outcomes[place], waiting[self.nexts[place] as usize]) {
                 waiting[memory] &= !bit;
                 more = true;
             }
@@ -53,15 +53,15 @@ impl Picture {
     }
 
     // Goes once through all that waits.
-    fn sweep(&self, demand: Demand, waiting: &mut [u64; 4]) -> bool
-        ensures swept { λ _. ⌜ Swept demand (now (self .entry)) (now (waiting .entry)) (now (waiting .exit)) ⌝ }
+    fn sweep(&self, quorum: Quorum, waiting: &mut [u64; 4]) -> bool
+        ensures swept { λ _. ⌜ Swept quorum (now (self .entry)) (now (waiting .entry)) (now (waiting .exit)) ⌝ }
         ensures less { λ r. ⌜ (r ≡ true → weight (now (waiting .exit)) < weight (now (waiting .entry))) ⌝ }
         ensures same { λ r. ⌜ (r ≡ false → now (waiting .exit) ≡ now (waiting .entry)) ⌝ }
-        ensures waits { λ r. ⌜ (r ≡ false → (m s : ℕ) → has (getD (now (waiting .entry)) m 0) s ≡ true → Waits demand (now (self .entry)) (now (waiting .entry)) m s) ⌝ }
+        ensures waits { λ r. ⌜ (r ≡ false → (m s : ℕ) → has (getD (now (waiting .entry)) m 0) s ≡ true → Waits quorum (now (self .entry)) (now (waiting .entry)) m s) ⌝ }
     {
         let mut more = false;
         for memory in 0..MEMORIES {
-            if self.sweep_memory(demand, waiting, memory) {
+            if self.sweep_memory(quorum, waiting, memory) {
                 more = true;
             }
         }
@@ -69,9 +69,9 @@ impl Picture {
     }
 
     // Does every configuration come to rest? One that does not move is at rest, and a moving one comes to rest once every outcome
-    // of its move does, or any one, as the demand is. Sweeps over those that wait for that until none is taken out any more.
-    pub fn rests(&self, demand: Demand) -> bool
-        ensures { λ r. ⌜ Decides r ((m s : ℕ) → Rests demand (now (self .entry)) m s) ⌝ }
+    // of its move does, or any one, as the quorum is. Sweeps over those that wait for that until none is taken out any more.
+    pub fn rests(&self, quorum: Quorum) -> bool
+        ensures { λ r. ⌜ Decides r ((m s : ℕ) → Rests quorum (now (self .entry)) m s) ⌝ }
     {
         let mut waiting = [
             self.moving(0),
@@ -79,7 +79,7 @@ impl Picture {
             self.moving(2),
             self.moving(3),
         ];
-        while self.sweep(demand, &mut waiting) {}
+        while self.sweep(quorum, &mut waiting) {}
         waiting[0] | waiting[1] | waiting[2] | waiting[3] == 0
     }
 }

@@ -50,7 +50,7 @@ fn search<R: FinishRule + Drop>(model: Model, rule: R, bound: u8) -> Verdict
     requires few { ⌜ bound ≤ 4 ⌝ }
     requires state { ⌜ 1 ≤ model .states ⌝ }
     requires initial { ⌜ 1 ≤ model .initial ⌝ }
-    ensures { λ r. ⌜ Searched r ⌝ }
+    ensures { λ r. ⌜ Searched bound (model .actions) (model .observations) r ⌝ }
 {
     let mut case = Case::new(model, rule);
     if case.begin(bound).is_err() {

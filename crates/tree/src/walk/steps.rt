@@ -1,3 +1,4 @@
+ghost use Rattle.controller.specs.Tables.{SameCounts};
 ghost use Rattle.tree.specs.Walks.{Back, Descended, Root};
 use crate::bars::Bars;
 use crate::choices::following;
@@ -39,7 +40,8 @@ impl Walk {
 
     // To the next table of the order that does not lie below this one. False, back at the root, where there is none.
     pub fn retreat(&mut self, bars: &Bars) -> bool
-        ensures { λ r. ⌜ Back (now (bars .entry)) (now (self .entry)) (now (self .exit)) r ⌝ }
+        ensures way { λ r. ⌜ Back (now (bars .entry)) (now (self .entry)) (now (self .exit)) r ⌝ }
+        ensures counts { λ _. ⌜ SameCounts (now (self .entry) .table) (now (self .exit) .table) ⌝ }
     {
         while self.depth > 0 {
             let Place {

@@ -15,7 +15,7 @@ use Rattle.picture.proofs.Picture.sweep.Needs.{then-sweep-memory, else-sweep-m
 
 pub loop-memory-again : need.loop-memory-again
 loop-memory-again c =
-    let d = c .args .demand in
+    let d = c .args .quorum in
     let p = c .args .self .now in
     let first = c .args .waiting .now in
     let before = c .loop-memory .waiting in

@@ -18,7 +18,7 @@ use Rattle.picture.proofs.Picture.sweep_memory.Needs as need
 
 pub loop-left-holds : need.loop-left-holds
 loop-left-holds c =
-    (omega arith, λ s h. h, swept-none (c .args .demand) (c .args .self .now) (c .args .waiting .now), λ e. absurd (false≢true e), λ _. refl, λ _ s h n. absurd (false≢true (sym n ∙ h)), omega arith)
+    (omega arith, λ s h. h, swept-none (c .args .quorum) (c .args .self .now) (c .args .waiting .now), λ e. absurd (false≢true e), λ _. refl, λ _ s h n. absurd (false≢true (sym n ∙ h)), omega arith)
 
 pub shl-bit : need.shl-bit
 shl-bit c = smallest 64 (c .loop-left .left) (omega arith) (c .loop-left .inv .6) .below
@@ -50,7 +50,7 @@ loop-left-again-then-met c =
     let here = c .loop-left .inv .1 s (t .here) in
     let lt : m < length xs = omega (arith, c .pre) in
     let fit : getD xs m 0 < 2 ^ 64 = omega arith in
-    let w = swept-more (c .args .demand) p (c .args .waiting .now) xs m s (c .loop-left .inv .2) lt fit (t .below) here (omega arith) (omega arith) (sym (c .if-met .ensures tt)) in (
+    let w = swept-more (c .args .quorum) p (c .args .waiting .now) xs m s (c .loop-left .inv .2) lt fit (t .below) here (omega arith) (omega arith) (sym (c .if-met .ensures tt)) in (
       length-set xs m _ ∙ c .loop-left .inv .0,
       λ k h. left-waits xs m s x k lt fit (c .loop-left .inv .6) (t .below) (c .loop-left .inv .1 k) h,
       w,
@@ -68,7 +68,7 @@ loop-left-again c =
     let x = c .loop-left .left in
     let s = trailingZeros 64 x in
     let t = smallest 64 x (omega arith) (c .loop-left .inv .6) in
-    let waits = unmet-waits (c .args .demand) p xs m s (omega arith) (omega arith) (sym (c .if-met .ensures tt)) in (
+    let waits = unmet-waits (c .args .quorum) p xs m s (omega arith) (omega arith) (sym (c .if-met .ensures tt)) in (
       c .loop-left .inv .0,
       λ k h. c .loop-left .inv .1 k (cleared-in x s (c .loop-left .inv .6) (t .below) k h),
       c .loop-left .inv .2,
@@ -76,7 +76,7 @@ loop-left-again c =
       c .loop-left .inv .4,
       λ e k h n. elim (cleared-out x s (c .loop-left .inv .6) (t .below) k n) [
         | inl q ↦ c .loop-left .inv .5 e k h q
-        | inr q ↦ subst (λ (y : ℕ). Waits (c .args .demand) p xs m y) q waits
+        | inr q ↦ subst (λ (y : ℕ). Waits (c .args .quorum) p xs m y) q waits
       ],
       omega (arith, c .loop-left .inv .6, and-le-l x (2 ^ 64 - 1 - (1 * 2 ^ s) % 2 ^ 64)),
     )
@@ -87,6 +87,6 @@ returns c = record {
   less = c .loop-left .inv .3;
   same = c .loop-left .inv .4;
   waits = λ e s.
-      subst (λ (ws : List ℕ). has (getD ws (c .args .memory) 0) s ≡ true → Waits (c .args .demand) (c .args .self .now) ws (c .args .memory) s) (c .loop-left .inv .4 e)
+      subst (λ (ws : List ℕ). has (getD ws (c .args .memory) 0) s ≡ true → Waits (c .args .quorum) (c .args .self .now) ws (c .args .memory) s) (c .loop-left .inv .4 e)
       (λ h. c .loop-left .inv .5 e s h (ap (λ (x : ℕ). has x s) (c .loop-left-test .left) ∙ has-none s));
 }

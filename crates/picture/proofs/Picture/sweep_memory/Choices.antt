@@ -11,10 +11,10 @@ abbrev pub Inv-loop-left : given.InvT-loop-left
 Inv-loop-left l =
     (length (l .waiting) ≡ 4)
     × ((s : ℕ) → has (l .left) s ≡ true → has (getD (l .waiting) (l .memory) 0) s ≡ true)
-    × Swept (l .demand) (l .self) (l .entry .waiting) (l .waiting)
+    × Swept (l .quorum) (l .self) (l .entry .waiting) (l .waiting)
     × (l .more ≡ true → weight (l .waiting) < weight (l .entry .waiting))
     × (l .more ≡ false → l .waiting ≡ l .entry .waiting)
-    × (l .more ≡ false → (s : ℕ) → has (getD (l .waiting) (l .memory) 0) s ≡ true → has (l .left) s ≡ false → Waits (l .demand) (l .self) (l .waiting) (l .memory) s)
+    × (l .more ≡ false → (s : ℕ) → has (getD (l .waiting) (l .memory) 0) s ≡ true → has (l .left) s ≡ false → Waits (l .quorum) (l .self) (l .waiting) (l .memory) s)
     × (l .left < 2 ^ 64)
 
 abbrev pub μ-loop-left : given.MeasureT-loop-left

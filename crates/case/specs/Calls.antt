@@ -94,6 +94,7 @@ module _ {E R : Type 0} where
     pub same-rule : after .rule ≡ before .rule
     pub same-phase : after .phase ≡ before .phase
     pub same-walk : after .walk ≡ before .walk
+    pub same-picture : after .picture ≡ before .picture
     pub barred : (o′ a′ : ℕ) → barredAt (after .bars) o′ a′ ≡ (barredAt (before .bars) o′ a′ || (eqb o o′ && eqb a a′))
 
   -- an accepted begin puts the case at the root: a table of n memories over the environment's alphabet, every entry blank
@@ -101,6 +102,7 @@ module _ {E R : Type 0} where
     pub same-environment : after .environment ≡ before .environment
     pub same-rule : after .rule ≡ before .rule
     pub same-bars : after .bars ≡ before .bars
+    pub same-picture : after .picture ≡ before .picture
     pub searching : after .phase ≡ Searching
     pub bound : after .walk .table .memories ≡ n
     pub actions : after .walk .table .actions ≡ x .actions

@@ -23,12 +23,12 @@ past p m s far = elim (cases_Bool (is_reached p m s)) [
   | inr n ↦ let q = unmarked p m s n in ap₂ ◌||◌ q.2 q.3
 ]
 
-pub returns-then-off-goal-stuck-ne0 : goal.returns-then-off-goal-stuck-ne0
-returns-then-off-goal-stuck-ne0 c =
-    let x = c.off-goal.result in
+pub returns-then-off_goal-stuck-ne0 : goal.returns-then-off_goal-stuck-ne0
+returns-then-off_goal-stuck-ne0 c =
+    let x = c.off_goal.result in
     let y = c.stuck.result in
     let t = smallest 64 (bit_or x y) (omega arith) (or_lt 64 x y (omega arith) (omega arith)) in
-    (c.loop-memory.memory, count_trailing_zeros 64 (bit_or x y), sym (failed_is c.args.picture.now c.loop-memory.memory x y _ c.off-goal.ensures c.stuck.ensures) ∙ t.here)
+    (c.loop-memory.memory, count_trailing_zeros 64 (bit_or x y), sym (failed_is c.args.picture.now c.loop-memory.memory x y _ c.off_goal.ensures c.stuck.ensures) ∙ t.here)
 
 pub loop-memory-preserved : goal.loop-memory-preserved
 loop-memory-preserved c = λ m s h.
@@ -37,7 +37,7 @@ loop-memory-preserved c = λ m s h.
     elim (cases_eq m j) [
       | inl e ↦
           subst (λ (k : ℕ). failed p k s ≡ false) (sym e)
-          (sym (failed_is p j c.off-goal.result c.stuck.result s c.off-goal.ensures c.stuck.ensures) ∙ has_empty _ s c.if-off-goal-stuck-ne0.false)
+          (sym (failed_is p j c.off_goal.result c.stuck.result s c.off_goal.ensures c.stuck.ensures) ∙ has_empty _ s c.if-off_goal-stuck-ne0.false)
       | inr ne ↦ c.loop-memory.invariant m s (omega arith)
     ]
 

@@ -8,4 +8,4 @@ loop-memory-init c = start _ _
 
 pub loop-memory-preserved : goal.loop-memory-preserved
 loop-memory-preserved c =
-    turn (row_lines c.args.table.now) c.loop-memory.memory _ _ _ _ c.loop-memory.invariant c.in-ok-write-row.ensures refl
+    turn (row_lines c.args.table.now) c.loop-memory.memory _ _ _ _ c.loop-memory.invariant c.in_ok-write_row.ensures refl

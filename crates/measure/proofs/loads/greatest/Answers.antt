@@ -2,8 +2,8 @@ use Rattle.std.proofs.Common.{arith}
 use Rattle.sets.proofs.Members.{first_falls, smallest-lt}
 use Rattle.measure.proofs.loads.greatest.Goals as goal
 
-pub overflow-add-best : goal.overflow-add-best
-overflow-add-best g c = let t = smallest-lt 64 c.args.set c.args.states (omega arith) (omega arith) c.requires.within in omega arith
+pub overflow_add-best : goal.overflow_add-best
+overflow_add-best g c = let t = smallest-lt 64 c.args.set c.args.states (omega arith) (omega arith) c.requires.within in omega arith
 
 pub bounds-loads-base : goal.bounds-loads-base
 bounds-loads-base g c = let t = smallest-lt 64 c.args.set c.args.states (omega arith) (omega arith) c.requires.within in omega arith
@@ -11,8 +11,8 @@ bounds-loads-base g c = let t = smallest-lt 64 c.args.set c.args.states (omega a
 pub offset-bounds-loads-base : goal.offset-bounds-loads-base
 offset-bounds-loads-base g c = let t = smallest-lt 64 c.args.set c.args.states (omega arith) (omega arith) c.requires.within in omega arith
 
-pub overflow-add-load : goal.overflow-add-load
-overflow-add-load g c = let t = smallest-lt 64 c.loop-left.left c.args.states (omega arith) c.loop-left.invariant.0 (omega arith) in omega arith
+pub overflow_add-load : goal.overflow_add-load
+overflow_add-load g c = let t = smallest-lt 64 c.loop-left.left c.args.states (omega arith) c.loop-left.invariant.0 (omega arith) in omega arith
 
 pub offset-bounds-loads-base-in-loop-left : goal.offset-bounds-loads-base-in-loop-left
 offset-bounds-loads-base-in-loop-left g c = let t = smallest-lt 64 c.loop-left.left c.args.states (omega arith) c.loop-left.invariant.0 (omega arith) in omega arith
@@ -20,14 +20,14 @@ offset-bounds-loads-base-in-loop-left g c = let t = smallest-lt 64 c.loop-left.l
 pub bounds-loads-base-in-loop-left : goal.bounds-loads-base-in-loop-left
 bounds-loads-base-in-loop-left g c = let t = smallest-lt 64 c.loop-left.left c.args.states (omega arith) c.loop-left.invariant.0 (omega arith) in omega arith
 
-pub loop-left-smaller-then-not-at-most : goal.loop-left-smaller-then-not-at-most
-loop-left-smaller-then-not-at-most g c = first_falls c.loop-left.left (omega arith) c.loop-left.invariant.0
+pub loop-left-smaller-then-not-at_most : goal.loop-left-smaller-then-not-at_most
+loop-left-smaller-then-not-at_most g c = first_falls c.loop-left.left (omega arith) c.loop-left.invariant.0
 
 pub loop-left-smaller : goal.loop-left-smaller
 loop-left-smaller g c = first_falls c.loop-left.left (omega arith) c.loop-left.invariant.0
 
-pub loop-left-preserved-then-not-at-most : goal.loop-left-preserved-then-not-at-most
-loop-left-preserved-then-not-at-most g c = let t = first_falls c.loop-left.left (omega arith) c.loop-left.invariant.0 in (omega arith, omega arith)
+pub loop-left-preserved-then-not-at_most : goal.loop-left-preserved-then-not-at_most
+loop-left-preserved-then-not-at_most g c = let t = first_falls c.loop-left.left (omega arith) c.loop-left.invariant.0 in (omega arith, omega arith)
 
 pub loop-left-preserved : goal.loop-left-preserved
 loop-left-preserved g c = let t = first_falls c.loop-left.left (omega arith) c.loop-left.invariant.0 in (omega arith, omega arith)

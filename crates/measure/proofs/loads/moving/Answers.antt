@@ -14,12 +14,12 @@ pub loop-memory-preserved : goal.loop-memory-preserved
 loop-memory-preserved c =
     let i = c.loop-memory.memory in
     let xs = c.loop-memory.sets in
-    let v = bit_and c.moving.result c.first-states-all.result in (
+    let v = bit_and c.moving.result c.first_states-all.result in (
       length-set xs i v ∙ c.loop-memory.invariant.0,
       λ m s h. elim (cases_eq m i) [
         | inl e ↦
             let here : has v s ≡ true = ap (λ (x : ℕ). has x s) (sym (get_or-set_same xs i v 0 (omega arith))) ∙ subst (λ (k : ℕ). has (get_or (set xs i v) k 0) s ≡ true) e h in
-            (omega arith, has_in c.first-states-all.result c.args.states s c.first-states-all.ensures (and_parts _ _ (sym (has-and c.moving.result c.first-states-all.result s) ∙ here)).1)
+            (omega arith, has_in c.first_states-all.result c.args.states s c.first_states-all.ensures (and_parts _ _ (sym (has-and c.moving.result c.first_states-all.result s) ∙ here)).1)
         | inr ne ↦
             let old = c.loop-memory.invariant.1 m s (ap (λ (x : ℕ). has x s) (sym (get_or-set_other xs i m v 0 ne)) ∙ h) in
             (omega (arith, old.0), old.1)

@@ -38,6 +38,6 @@ loop-at-preserved g c =
     let at = place-lt m s c.args.table.now.memories c.states-states.result in_table.0 in_table.1 in (
       length-set xs m _ ∙ c.loop-at.invariant.0,
       λ n t h. c.loop-at.invariant.1 n t (taken_in xs m s (omega (arith, here.0)) fit (has_in (get_or xs m 0) 64 s fit here.1) n t h),
-      λ k far. get_or-set_other c.loop-at.loads (m * c.states-states.result + s) k c.load-from-load.result g.M.Measure.none
+      λ k far. get_or-set_other c.loop-at.loads (m * c.states-states.result + s) k c.load_from-load.result g.M.Measure.none
           (λ e. omega (arith, subst (λ (x : ℕ). c.args.table.now.memories * x ≤ k) (sym c.states-states.ensures.value) far)) ∙ c.loop-at.invariant.2 k far,
     )

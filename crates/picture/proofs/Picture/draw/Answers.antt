@@ -5,9 +5,9 @@ use Rattle.picture.proofs.Live.{live_none, live_rests, live_moves, live_all}
 use Rattle.picture.proofs.Masks.{none_in}
 use Rattle.picture.proofs.Picture.draw.Goals as goal
 
-pub invariant-of-self : goal.invariant-of-self
-invariant-of-self g c =
-    (λ m s. rw (none_in m s), (λ m s h. absurd (both_ways _ (none_in m s) h), (c.args.self.now.near, (c.args.self.now.narrow, tt))))
+pub invariant_of-self : goal.invariant_of-self
+invariant_of-self g c =
+    record { parted = λ m s. rw (none_in m s); bounded = λ m s h. absurd (both_ways _ (none_in m s) h); near = c.args.self.now.near; narrow = c.args.self.now.narrow }
 
 pub loop-at-init : goal.loop-at-init
 loop-at-init g c = (refl, live_none (g.E.Environment.meaning c.args.environment.now) c.args.table.now _ c.initial.result c.initial.ensures.value none_in)
@@ -18,7 +18,7 @@ loop-at-preserved-in-Moving g c =
     let near = c.in-Moving.ensures.reached in (
       length-set c.loop-at.marks c.in-Moving.next _ ∙ c.loop-at.invariant.0,
       live_moves (g.E.Environment.meaning c.args.environment.now) c.args.table.now c.loop-at.self c.put.new.self c.loop-at.marks
-          c.in-Some.at.memory c.in-Some.at.state c.kind-of-kind.result c.loop-at.invariant.1 at.2 at.3 c.put.ensures c.kind-of-kind.ensures.value
+          c.in-Some.at.memory c.in-Some.at.state c.kind_of-kind.result c.loop-at.invariant.1 at.2 at.3 c.put.ensures c.kind_of-kind.ensures.value
           c.in-Moving.next c.in-Moving.outcomes c.in-Moving.is (omega (arith, near, c.loop-at.invariant.0)),
     )
 
@@ -27,10 +27,10 @@ loop-at-preserved g c =
     let at = c.in-Some.ensures in (
       c.loop-at.invariant.0,
       live_rests (g.E.Environment.meaning c.args.environment.now) c.args.table.now c.loop-at.self c.put.new.self c.loop-at.marks
-          c.in-Some.at.memory c.in-Some.at.state c.kind-of-kind.result c.loop-at.invariant.1 at.2 at.3 c.put.ensures c.kind-of-kind.ensures.value
-          c.in-default-kind.not-Moving,
+          c.in-Some.at.memory c.in-Some.at.state c.kind_of-kind.result c.loop-at.invariant.1 at.2 at.3 c.put.ensures c.kind_of-kind.ensures.value
+          c.in_default-kind.not-Moving,
     )
 
 pub returns : goal.returns
 returns g c =
-    live_all (g.E.Environment.meaning c.args.environment.now) c.args.table.now c.loop-at.self c.loop-at.marks c.loop-at.invariant.1 c.in-default.ensures
+    live_all (g.E.Environment.meaning c.args.environment.now) c.args.table.now c.loop-at.self c.loop-at.marks c.loop-at.invariant.1 c.in_default.ensures

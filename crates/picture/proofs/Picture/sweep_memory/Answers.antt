@@ -12,8 +12,8 @@ pub loop-left-init : goal.loop-left-init
 loop-left-init c =
     (omega arith, λ s h. h, swept_none c.args.quorum c.args.self.now c.args.waiting.now, λ e. absurd (false≢true e), λ _. refl, λ _ s h n. absurd (false≢true (sym n ∙ h)), omega arith)
 
-pub overflow-shl-bit : goal.overflow-shl-bit
-overflow-shl-bit c = (smallest 64 c.loop-left.left (omega arith) c.loop-left.invariant.6).below
+pub overflow_shl-bit : goal.overflow_shl-bit
+overflow_shl-bit c = (smallest 64 c.loop-left.left (omega arith) c.loop-left.invariant.6).below
 
 pub bounds-self-place : goal.bounds-self-place
 bounds-self-place c = let t = (smallest 64 c.loop-left.left (omega arith) c.loop-left.invariant.6).below in omega arith

@@ -6,24 +6,24 @@ use Rattle.modelsheet.proofs.model.read.read_chain.Goals as goal
 pub records-init : goal.records-init
 records-init c = start c.args.sheet.now c.args.head.state c.args.head.action c.args.first (omega arith)
 
-pub returns-in-err-record : goal.returns-in-err-record
-returns-in-err-record c =
+pub returns-in_err-record : goal.returns-in_err-record
+returns-in_err-record c =
     let w = c.records.invariant in
-    let p = err_from_is_err_and c.from-residual.result c.from-residual.ensures.1 in
+    let p = err_from_is_err_and c.from_residual.result c.from_residual.ensures.1 in
     rw (p.1, p.2)
-    (stopped c.args.sheet.now c.args.head.state c.args.head.action c.args.first c.records.index c.records.met w (omega arith) _ (c.in-err-record.ensures w.before w.marks))
+    (stopped c.args.sheet.now c.args.head.state c.args.head.action c.args.first c.records.index c.records.met w (omega arith) _ (c.in_err-record.ensures w.before w.marks))
 
 pub records-smaller : goal.records-smaller
 records-smaller c =
     let w = c.records.invariant in
-    let q = c.in-ok-record.ensures w.before w.marks in
-    fewer c.args.shape.records c.records.index c.in-ok-record.record.next c.records-test.true (omega arith) q.1.rises
+    let q = c.in_ok-record.ensures w.before w.marks in
+    fewer c.args.shape.records c.records.index c.in_ok-record.record.next c.records-test.true (omega arith) q.1.rises
 
 pub records-preserved : goal.records-preserved
 records-preserved c =
     let w = c.records.invariant in
-    let q = c.in-ok-record.ensures w.before w.marks in
-    onward c.args.sheet.now c.args.head.state c.args.head.action c.args.first c.records.index c.records.met w (omega arith) c.requires.laid.few_states c.in-ok-record.record q.1 c.with-met.result c.with-met.ensures q.0
+    let q = c.in_ok-record.ensures w.before w.marks in
+    onward c.args.sheet.now c.args.head.state c.args.head.action c.args.first c.records.index c.records.met w (omega arith) c.requires.laid.few_states c.in_ok-record.record q.1 c.with-met.result c.with-met.ensures q.0
 
 pub returns : goal.returns
 returns c =

@@ -15,13 +15,13 @@ heads-init c =
     let b = c.args.sheet.now in
     (refl, rw sub-zero refl, λ j h. absurd (omega arith), λ j. subst (λ x. x < 2 ^ states_of b) (sym (zeros 512 j)) (pow_pos (states_of b)))
 
-pub returns-in-err-leads : goal.returns-in-err-leads
-returns-in-err-leads c =
+pub returns-in_err-leads : goal.returns-in_err-leads
+returns-in_err-leads c =
     let b = c.args.sheet.now in
     let e : states_of b * actions_of b ≡ c.args.shape.states * c.args.shape.actions = ap₂ ◌*◌ (sym c.requires.states_are) (sym c.requires.actions_are) in
-    let p = err_from_is_err_and c.from-residual.result c.from-residual.ensures.1 in
+    let p = err_from_is_err_and c.from_residual.result c.from_residual.ensures.1 in
     rw (p.1, p.2)
-    (sym c.heads.invariant.1 ∙ head_refused b (states_of b * actions_of b) c.heads.k (omega arith) _ c.in-err-leads.ensures)
+    (sym c.heads.invariant.1 ∙ head_refused b (states_of b * actions_of b) c.heads.k (omega arith) _ c.in_err-leads.ensures)
 
 pub bounds-leads-k : goal.bounds-leads-k
 bounds-leads-k c =
@@ -35,8 +35,8 @@ heads-preserved c =
     let e : states_of b * actions_of b ≡ c.args.shape.states * c.args.shape.actions = ap₂ ◌*◌ (sym c.requires.states_are) (sym c.requires.actions_are) in
     let all : c.args.shape.states * c.args.shape.actions ≤ 64 * 8 = mul-le c.args.shape.states c.args.shape.actions 64 8 (omega arith) (omega arith) in
     let few : k < length c.heads.leads = omega arith in
-    let v = c.in-ok-leads.field-0 in
-    let q = c.in-ok-leads.ensures in (
+    let v = c.in_ok-leads.field-0 in
+    let q = c.in_ok-leads.ensures in (
       length-set c.heads.leads k v ∙ c.heads.invariant.0,
       sym (head_passed b (states_of b * actions_of b) k (omega arith) q.0) ∙ c.heads.invariant.1,
       below_write (λ j x. (t : ℕ) → Decides (has x t) (OnChain b (head_of b j) t)) c.heads.leads k v few q.1.targets c.heads.invariant.2,

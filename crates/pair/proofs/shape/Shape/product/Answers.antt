@@ -11,12 +11,12 @@ rows-init c =
     (λ e. c.if-states-eq0.false (c.states.ensures ∙ e)) c.args.self.now.few c.below-2.ensures c.below.ensures in
     (f, nothing_copied _ _ _ f.first_fits)
 
-pub overflow-mul-set : goal.overflow-mul-set
-overflow-mul-set c =
+pub overflow_mul-set : goal.overflow_mul-set
+overflow_mul-set c =
     let r = room _ _ _ _ _ _ _ _ c.rows.invariant.0 c.rows.invariant.1 (omega (arith, c.rows-test.true)) in omega arith
 
-pub overflow-shl-set : goal.overflow-shl-set
-overflow-shl-set c =
+pub overflow_shl-set : goal.overflow_shl-set
+overflow_shl-set c =
     let r = room _ _ _ _ _ _ _ _ c.rows.invariant.0 c.rows.invariant.1 (omega (arith, c.rows-test.true)) in omega (arith, c.rows.invariant.0.rows)
 
 pub rows-smaller : goal.rows-smaller

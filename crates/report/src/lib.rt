@@ -7,7 +7,6 @@ use controller::entry::Entry;
 use controller::table::Table;
 use faults::JobFault;
 use std::alloc::{AllocError, Global};
-use std::fmt;
 
 // What came of a job: how many tables were judged and what the search ended with, or why the job was refused.
 #[derive(Clone, Copy)]
@@ -30,7 +29,7 @@ pub enum Verdict {
 }
 
 // Writes the line of one entry; a blank one has no line.
-fn write_entry(text: &mut String, memory: u8, observation: u8, entry: Entry) -> fmt::Result
+fn write_entry(text: &mut String, memory: u8, observation: u8, entry: Entry) -> Result<(), AllocError>
     ensures { OnOk result (string_bytes text.new ≡ string_bytes text.old ++ entry_line memory observation entry) }
 {
     match entry {
@@ -41,7 +40,7 @@ fn write_entry(text: &mut String, memory: u8, observation: u8, entry: Entry) -> 
 }
 
 // Writes the lines of a memory's entries, by observation.
-fn write_row(text: &mut String, table: &Table, memory: u8) -> fmt::Result
+fn write_row(text: &mut String, table: &Table, memory: u8) -> Result<(), AllocError>
     ensures { OnOk result (string_bytes text.new ≡ string_bytes text.old ++ row_lines table.now memory) }
 {
     for observation in 0..table.observations() {
@@ -51,7 +50,7 @@ fn write_row(text: &mut String, table: &Table, memory: u8) -> fmt::Result
 }
 
 // Writes the lines of a table's entries, by memory and then observation.
-fn write_table(text: &mut String, table: &Table) -> fmt::Result
+fn write_table(text: &mut String, table: &Table) -> Result<(), AllocError>
     ensures { OnOk result (string_bytes text.new ≡ string_bytes text.old ++ table_lines table.now) }
 {
     for memory in 0..table.memories() {
@@ -61,7 +60,7 @@ fn write_table(text: &mut String, table: &Table) -> fmt::Result
 }
 
 // Writes the worst number of steps, or a dash where there is none.
-fn write_worst(text: &mut String, worst: Option<u32>) -> fmt::Result
+fn write_worst(text: &mut String, worst: Option<u32>) -> Result<(), AllocError>
     ensures { OnOk result (string_bytes text.new ≡ string_bytes text.old ++ worst_line worst) }
 {
     match worst {
@@ -71,7 +70,7 @@ fn write_worst(text: &mut String, worst: Option<u32>) -> fmt::Result
 }
 
 // Writes a fault: its refusal, layer and byte, and the state and the action where it lies in a chain.
-fn write_fault(text: &mut String, fault: JobFault) -> fmt::Result
+fn write_fault(text: &mut String, fault: JobFault) -> Result<(), AllocError>
     ensures { OnOk result (string_bytes text.new ≡ string_bytes text.old ++ fault_line fault) }
 {
     let refusal = fault.refusal().number();
@@ -91,7 +90,7 @@ fn write_fault(text: &mut String, fault: JobFault) -> fmt::Result
 }
 
 // Writes the whole text of a verdict.
-fn write_verdict(text: &mut String, verdict: &Verdict) -> fmt::Result
+fn write_verdict(text: &mut String, verdict: &Verdict) -> Result<(), AllocError>
     ensures { OnOk result (string_bytes text.new ≡ string_bytes text.old ++ report_text verdict.now) }
 {
     match verdict {
@@ -115,10 +114,8 @@ pub fn report(heap: Global, verdict: &Verdict) -> Result<String, AllocError>
     ensures { IfOk result (λ s. string_bytes s ≡ report_text verdict.now) }
 {
     let mut text = String::new(heap);
-    match write_verdict(&mut text, verdict) {
-        Ok(()) => Ok(text),
-        Err(_) => Err(AllocError),
-    }
+    write_verdict(&mut text, verdict)?;
+    Ok(text)
 }
 
 #[cfg(test)]

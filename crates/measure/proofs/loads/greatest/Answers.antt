@@ -8,14 +8,14 @@ overflow_add-best g c = let t = smallest-lt 64 c.args.set c.args.states (omega a
 pub bounds-loads-base : goal.bounds-loads-base
 bounds-loads-base g c = let t = smallest-lt 64 c.args.set c.args.states (omega arith) (omega arith) c.requires.within in omega arith
 
-pub offset-bounds-loads-base : goal.offset-bounds-loads-base
-offset-bounds-loads-base g c = let t = smallest-lt 64 c.args.set c.args.states (omega arith) (omega arith) c.requires.within in omega arith
+pub offset_bounds-loads-base : goal.offset_bounds-loads-base
+offset_bounds-loads-base g c = let t = smallest-lt 64 c.args.set c.args.states (omega arith) (omega arith) c.requires.within in omega arith
 
 pub overflow_add-load : goal.overflow_add-load
 overflow_add-load g c = let t = smallest-lt 64 c.loop-left.left c.args.states (omega arith) c.loop-left.invariant.0 (omega arith) in omega arith
 
-pub offset-bounds-loads-base-in-loop-left : goal.offset-bounds-loads-base-in-loop-left
-offset-bounds-loads-base-in-loop-left g c = let t = smallest-lt 64 c.loop-left.left c.args.states (omega arith) c.loop-left.invariant.0 (omega arith) in omega arith
+pub offset_bounds-loads-base-in-loop-left : goal.offset_bounds-loads-base-in-loop-left
+offset_bounds-loads-base-in-loop-left g c = let t = smallest-lt 64 c.loop-left.left c.args.states (omega arith) c.loop-left.invariant.0 (omega arith) in omega arith
 
 pub bounds-loads-base-in-loop-left : goal.bounds-loads-base-in-loop-left
 bounds-loads-base-in-loop-left g c = let t = smallest-lt 64 c.loop-left.left c.args.states (omega arith) c.loop-left.invariant.0 (omega arith) in omega arith

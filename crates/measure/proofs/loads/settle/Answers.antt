@@ -9,8 +9,8 @@ use Rattle.measure.proofs.loads.settle.Goals as goal
 place-lt : (m s n k : ℕ) → m < n → s < k → m * k + s < n * k
 place-lt m s n k hm hs = omega (arith, mul-add-lt m k s n hm hs, mul_comm n k)
 
-pub offset-bounds-loads-at : goal.offset-bounds-loads-at
-offset-bounds-loads-at g c =
+pub offset_bounds-loads-at : goal.offset_bounds-loads-at
+offset_bounds-loads-at g c =
     let in_table = c.loop-at.invariant.1 c.in-Some.at.memory c.in-Some.at.state c.in-Some.ensures.1 in
     let at = place-lt c.in-Some.at.memory c.in-Some.at.state c.args.table.now.memories c.states-states.result in_table.0 in_table.1 in
     let lt : c.in-Some.at.memory * c.states-states.result + c.in-Some.at.state < length c.args.loads.now =

@@ -17,7 +17,7 @@ returns-in_err-model c =
     let b = c.args.file.now in
     let p = err_from_is_err_and c.from_residual-in_err-model.result c.from_residual-in_err-model.ensures.1 in
     let sheet = ap judge (sym (the_rest b)) ∙ c.in_err-model.ensures in
-    rw (p.1, p.2) (by_sheet b c.if-file-lt-LEAST-LENGTH.false c.if-bound-eq0.false c.if-bound-gt-MOST-MEMORIES.false c.in_ok-rule.ensures.0 ∙ ap (raise in_file) sheet)
+    rw (p.1, p.2) (by_sheet b c.if-file-lt-LEAST_LENGTH.false c.if-bound-eq0.false c.if-bound-gt-MOST_MEMORIES.false c.in_ok-rule.ensures.0 ∙ ap (raise in_file) sheet)
 
 pub returns : goal.returns
 returns c =
@@ -26,6 +26,6 @@ returns c =
     let r = c.in_ok-rule.ensures in
     let sheet = ap judge (sym (the_rest b)) ∙ h.0 in
     let says = subst (λ (l : List ℕ). Says l (system_of c.in_ok-model.model)) (the_rest b) h.1 in (
-      by_sheet b c.if-file-lt-LEAST-LENGTH.false c.if-bound-eq0.false c.if-bound-gt-MOST-MEMORIES.false r.0 ∙ ap (raise in_file) sheet,
-      record { bound_is = refl; bound_some = omega arith; bound_few = c.if-bound-gt-MOST-MEMORIES.false; rule_is = r.1; model_says = says },
+      by_sheet b c.if-file-lt-LEAST_LENGTH.false c.if-bound-eq0.false c.if-bound-gt-MOST_MEMORIES.false r.0 ∙ ap (raise in_file) sheet,
+      record { bound_is = refl; bound_some = omega arith; bound_few = c.if-bound-gt-MOST_MEMORIES.false; rule_is = r.1; model_says = says },
     )

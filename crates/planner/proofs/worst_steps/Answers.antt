@@ -9,4 +9,4 @@ unreachable-requires g c =
     let case = c.args.case.now in
     let sound = g.met.E.Environment.sound case.environment in
     let all : case.walk.table.memories * (g.E.Environment.meaning case.environment).states ≤ 4 * 64 = mul-le _ _ 4 64 case.walk.table.few sound.few_states in
-    elim (c.in-Err.ensures.measured (ap unfound c.requires)).why [ inl short ↦ omega (arith, short.1) | inr cyclic ↦ c.in-default.not-Cycle cyclic.0 ]
+    elim (c.in-Err.ensures.measured (ap unfound c.requires)).why [ inl short ↦ omega (arith, short.1) | inr cyclic ↦ c.in_default.not-Cycle cyclic.0 ]

@@ -1,4 +1,5 @@
 // Controllers: tables of entries.
+#![tactic(auto)]
 
 pub mod entry;
 pub mod table;

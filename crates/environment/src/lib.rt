@@ -1,4 +1,5 @@
 // Environments: what a station, or any other finite system with several outcomes, is to the search.
+#![tactic(auto)]
 
 ghost use Rattle.std.specs.Prelude.{◌≡◌, ℕ};
 ghost use Rattle.environment.specs.System.{System, Sound, Over, is_legal};

@@ -1,5 +1,6 @@
 // What is wrong with a job file: a fault of one of its chains, of its sheet, or of the file itself. Each layer has its own type, and a
 // fault is carried from the chain through the sheet to the file.
+#![tactic(auto)]
 
 ghost use Rattle.std.specs.Prelude.{◌≡◌};
 ghost use Rattle.faults.specs.Place.{in_sheet, in_file, layer_of, refusal_of, byte_of, head_of};

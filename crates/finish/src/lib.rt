@@ -1,4 +1,5 @@
 // Finish rules: which pictures a search gives up. A rule sees a picture alone.
+#![tactic(auto)]
 
 ghost use Rattle.std.specs.Prelude.{true, false, MatchBool};
 ghost use Rattle.picture.specs.declared.settling.Quorum.TheVariants.{Every, Any};

@@ -1,4 +1,5 @@
 // Measures: what the runs of a table cost, and the worst of them.
+#![tactic(auto)]
 
 ghost use Rattle.std.specs.Prelude.{◌≡◌, ℕ, Bool, true, nat_le};
 ghost use Rattle.measure.specs.Order.{Ranking};

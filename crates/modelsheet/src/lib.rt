@@ -1,4 +1,5 @@
 // Model sheets: an environment written down as bytes, read and judged byte by byte.
+#![tactic(auto)]
 
 pub mod model;
 

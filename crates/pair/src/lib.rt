@@ -1,4 +1,5 @@
 // Pairs: two environments side by side, of which one moves at a time.
+#![tactic(auto)]
 
 ghost use Rattle.std.specs.Prelude.{◌≡◌};
 ghost use Rattle.pair.specs.Numbering.{counts_of, joined, Small};

@@ -1,4 +1,5 @@
 // The picture of a table: what becomes of each configuration, a memory with a state, when runs of the table are followed.
+#![tactic(auto)]
 
 ghost use Rattle.std.specs.Prelude.{◌≡◌, ℕ, ◌^◌, ◌<◌, true, slice_index};
 ghost use Rattle.sets.specs.Mask.{has};

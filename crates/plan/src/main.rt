@@ -1,4 +1,5 @@
 // The program: a job file comes on standard input, and the report goes to standard output.
+#![tactic(auto)]
 
 ghost use Rattle.std.specs.Prelude.{◌≤◌, length, IfOk};
 

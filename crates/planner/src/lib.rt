@@ -1,4 +1,5 @@
 // The planner: from a job file to the verdict that is reported.
+#![tactic(auto)]
 
 ghost use Rattle.std.specs.Prelude.{◌≡◌, ◌≤◌, MatchOption};
 ghost use Rattle.case.specs.declared.case.Phase.TheVariants.{Found};

@@ -1,4 +1,5 @@
 // Every reason for which a call of the library, or the program, refuses what it is given.
+#![tactic(auto)]
 
 ghost use Rattle.std.specs.Prelude.{◌≡◌};
 ghost use Rattle.refusals.specs.Number.{number};

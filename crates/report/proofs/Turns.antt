@@ -1,5 +1,5 @@
 -- What one more piece adds to a text.
-use Rattle.std.proofs.Common.{◌≡◌, ℕ, ◌+◌, List, [], ◌∷◌, ◌++◌, refl, append_assoc, append-nil, add-one}
+use Rattle.std.proofs.Common.{◌≡◌, ℕ, ◌+◌, List, [], ◌++◌, refl, append_assoc, append-nil, add-one}
 use Rattle.report.specs.Text.{each}
 
 pub each_none : (f : ℕ → List ℕ) → each 0 f ≡ []

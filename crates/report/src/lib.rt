@@ -1,4 +1,5 @@
 // The report: the lines that the program prints for a verdict.
+#![tactic(auto)]
 
 ghost use Rattle.std.specs.Prelude.{◌≡◌, ◌++◌, IfOk, string_bytes, OnOk};
 ghost use Rattle.report.specs.Text.{entry_line, row_lines, table_lines, worst_line, fault_line, report_text};
@@ -29,7 +30,12 @@ pub enum Verdict {
 }
 
 // Writes the line of one entry; a blank one has no line.
-fn write_entry(text: &mut String, memory: u8, observation: u8, entry: Entry) -> Result<(), AllocError>
+fn write_entry(
+    text: &mut String,
+    memory: u8,
+    observation: u8,
+    entry: Entry,
+) -> Result<(), AllocError>
     ensures { OnOk result (string_bytes text.new ≡ string_bytes text.old ++ entry_line memory observation entry) }
 {
     match entry {

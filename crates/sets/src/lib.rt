@@ -1,4 +1,5 @@
 // A set of states is a 64-bit mask: bit t stands for state t.
+#![tactic(auto)]
 
 ghost use Rattle.std.specs.Prelude.{◌≡◌, ℕ, ◌^◌, ◌<◌, ◌≤◌, min, not, ◌&&◌, ◌||◌, ltb, if◌then◌else◌, Decides, ◌==◌, nat_lt};
 ghost use Rattle.sets.specs.Laws.{SetLaws};

@@ -1,5 +1,6 @@
 // Shuttles: the smallest line on which a controller has to remember. A shuttle runs along a row of places and has to come back from the
 // far end; it sees where it is, and never whether it has been there.
+#![tactic(auto)]
 
 ghost use Rattle.std.specs.Prelude.{◌≡◌, ℕ, ◌<◌, true, false, MatchOption};
 ghost use Rattle.sets.specs.Mask.{only as single};

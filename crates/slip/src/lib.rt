@@ -1,4 +1,5 @@
 // Slips: an environment in which an action may also have no effect.
+#![tactic(auto)]
 
 ghost use Rattle.std.specs.Prelude.{◌≡◌};
 ghost use Rattle.environment.specs.System.{System, Sound};

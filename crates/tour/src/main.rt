@@ -1,5 +1,6 @@
 // A tour of the environments: asks each of them everything and prints what it answers. The figures of `stdout` are worked by hand from
 // the definitions in docs/MODEL.md.
+#![tactic(auto)]
 
 ghost use Rattle.std.specs.Prelude.{◌≡◌, ◌*◌, ◌<◌};
 ghost use Rattle.environment.specs.System.{empty};

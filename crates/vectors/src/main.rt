@@ -1,4 +1,5 @@
 // Runs many job files: each line of standard input is one, in hexadecimal, and its report is printed, with an empty line after it.
+#![tactic(auto)]
 
 ghost use Rattle.std.specs.Prelude.{◌<◌, ◌≤◌, length, IfOk};
 

@@ -1,4 +1,5 @@
 -- The system of a model is a sound one.
+-- Lemmas alone, which the proof of a law rests on; no contract speaks of them.
 use Rattle.std.specs.Prelude.{◌+◌, ◌*◌, ◌^◌, ◌<◌, ◌&&◌, nat_lt, slice_index}
 use Rattle.std.proofs.lemmas.Bool.{cond_both, cond-true, cond-false, lt-ltb, le-ltb, and_left, and_right}
 use Rattle.std.proofs.Common.{subst, sym}

@@ -1,4 +1,3 @@
 pub mod Numbering
 pub mod Pairs
 pub mod Paired
-pub mod Rows

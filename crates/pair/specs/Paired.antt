@@ -1,7 +1,8 @@
 -- A pair is a sound system, and it is the two parts side by side.
-use Rattle.std.specs.Prelude.{◌≡◌, ℕ, ◌+◌, ◌-◌, ◌*◌, ◌/◌, ◌%◌, ◌^◌, ◌<◌, ◌≤◌, ◌&&◌, Some, None, Option, nat_lt, refl}
+-- Lemmas alone, which the proof of a law rests on; no contract speaks of them.
+use Rattle.std.specs.Prelude.{◌≡◌, ℕ, ◌+◌, ◌-◌, ◌*◌, ◌/◌, ◌%◌, ◌^◌, ◌<◌, ◌≤◌, ◌≢◌, ◌&&◌, Some, None, Option, nat_lt, refl}
 use Rattle.std.proofs.Math.Path.{sym}
-use Rattle.std.proofs.Common.{ap, ap₂, subst, ◌∙◌, inl, inr, arith, mul_comm, zero-mul}
+use Rattle.std.proofs.Common.{ap, ap₂, subst, ◌∙◌, inl, inr, arith, mul_comm, mul-zero, zero-mul}
 use Rattle.std.proofs.lemmas.Nat.{div_below, div-mul-add, mod_below, mod-mul-add, mul-add-lt, mul-lt, pow_pos}
 use Rattle.std.proofs.lemmas.Bool.{cases_Bool, cases_lt, cases_eq, cond_both, cond-true, cond-false, lt-ltb, le-ltb, ltb-true, and_parts, and_right, and_from}
 use Rattle.sets.specs.Mask.{has, set_of, only}
@@ -15,7 +16,10 @@ use Rattle.pair.specs.declared.shape.Mover.{Mover}
 use Rattle.pair.specs.declared.shape.Mover.TheVariants.{First, Second}
 use Rattle.pair.specs.Numbering.{counts_of, parts_of, mover_of, sight_of, seen_in, led_from, joined, Small, Shaped, none}
 use Rattle.pair.specs.Pairs.{product, beside, fits, SideBySide, PairOf}
-use Rattle.pair.specs.Rows.{wide}
+
+-- a product that is not 0 has a second factor that is not 0
+pub wide : (h w : ℕ) → (h * w ≢ 0) → 0 < w
+wide h w some = elim (cases_eq w 0) [ inl e ↦ absurd (some (ap (λ (x : ℕ). h * x) e ∙ mul-zero h)) | inr ne ↦ omega arith ]
 
 product_lt : (h w p q : ℕ) → product h w p q < 2 ^ (h * w)
 unfolding product

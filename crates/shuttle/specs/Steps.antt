@@ -1,4 +1,5 @@
 -- Where the moves of a shuttle lead.
+-- Lemmas alone, which the proof of a law rests on; no contract speaks of them.
 use Rattle.std.specs.Prelude.{◌≡◌, ℕ, ◌+◌, ◌*◌, ◌^◌, ◌<◌, ◌≤◌, true, false, cond, MatchBool, ◌==◌, nat_le, nat_lt, refl}
 use Rattle.std.proofs.Common.{sym, ap, ◌∙◌, inl, inr, arith, lit≤, lit<}
 use Rattle.std.proofs.lemmas.Nat.{pow_pos, pow_below}

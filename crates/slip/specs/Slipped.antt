@@ -1,4 +1,5 @@
 -- What holds of a slip over a system.
+-- Lemmas alone, which the proof of a law rests on; no contract speaks of them.
 use Rattle.std.specs.Prelude.{◌≡◌, ℕ, ◌<◌, Bool, true, false, ◌&&◌, ◌||◌, ltb, ◌==◌, ◌≢◌, nat_lt, refl}
 use Rattle.std.proofs.Common.{sym, ap, ◌∙◌, inl, inr, arith}
 use Rattle.std.proofs.lemmas.Bool.{cases_Bool, both_ways, eq-eqb, ne_eqb, eqb-true, eqb-false, lt-ltb, and_left, and_from, or_right, not-true, not-false, not_from_true, not_from_false}

@@ -1,5 +1,5 @@
 use Rattle.std.proofs.Common.{sym, ◌∙◌, arith}
-use Rattle.pair.specs.Rows.{framed, nothing_copied, room, fewer, copied_more, all_copied, none_copied}
+use Rattle.pair.proofs.Rows.{framed, nothing_copied, room, fewer, copied_more, all_copied, none_copied}
 use Rattle.pair.proofs.shape.Shape.product.Goals as goal
 
 pub returns-then-states-eq0 : goal.returns-then-states-eq0

@@ -1,4 +1,4 @@
-use Rattle.pair.specs.Rows.{Framed, Copied}
+use Rattle.pair.proofs.Rows.{Framed, Copied}
 use Rattle.pair.proofs.shape.Shape.product.Given as goal
 
 abbrev pub invariant-rows : goal.invariant-rows

@@ -1,6 +1,6 @@
 -- How the product of two sets is made: a copy of the second set for each state of the first, in rows of w states.
 use Rattle.std.specs.Prelude.{◌≡◌, ℕ, suc, ◌+◌, ◌*◌, ◌/◌, ◌%◌, ◌^◌, ◌<◌, ◌≤◌, min, Bool, true, false, not, ◌&&◌, ◌||◌, ltb, ◌==◌, ◌≢◌, bit_and, bit_or, nat_lt, refl}
-use Rattle.std.proofs.Common.{sym, ap, ap₂, subst, ◌∙◌, inl, inr, arith, mul_comm, mul-one, mul-zero, suc-mul, lit<, pow_mono}
+use Rattle.std.proofs.Common.{sym, ap, ap₂, subst, ◌∙◌, inl, inr, arith, mul_comm, mul-one, suc-mul, lit<, pow_mono}
 use Rattle.std.specs.Int.Count.{count_trailing_zeros}
 use Rattle.std.proofs.lemmas.Nat.{div_below, le-div, mod_below, mul-le, or_lt, shl_whole}
 use Rattle.std.proofs.lemmas.Bool.{cases_lt, cases_eq, eq-eqb, ne_eqb, lt-ltb, le-ltb, and_left, and_right}
@@ -10,6 +10,7 @@ use Rattle.sets.proofs.Chosen.{is_chosen, none_chosen, chosen_within}
 use Rattle.sets.proofs.Members.{cleared, cleared_in, has_cleared, Smallest, smallest, first_falls}
 use Rattle.sets.proofs.Shifts.{has_row}
 use Rattle.pair.specs.Pairs.{product}
+use Rattle.pair.specs.Paired.{wide}
 
 -- the set p, cut to the states below n, as `p & below(n)` leaves it
 abbrev pub Cut : ℕ → ℕ → ℕ → Type 0
@@ -33,9 +34,6 @@ pub record Framed (h w p q first row : ℕ) : Type 0 where
   pub first-lt : first < 2 ^ h
   pub row_lt : row < 2 ^ w
   pub first_fits : first < 2 ^ 64
-
-pub wide : (h w : ℕ) → (h * w ≢ 0) → 0 < w
-wide h w some = elim (cases_eq w 0) [ inl e ↦ absurd (some (ap (λ (x : ℕ). h * x) e ∙ mul-zero h)) | inr ne ↦ omega arith ]
 
 -- each side of a product that is not 0 is at most the product
 side : (h w : ℕ) → (h * w ≢ 0) → h ≤ h * w

@@ -1,5 +1,5 @@
-// A tour of the environments: asks each of them everything and prints what it answers. The figures of `stdout` are worked by hand from
-// the definitions in docs/MODEL.md.
+// A tour of the environments: asks each of them every question but `legal` and prints what it answers. The figures of `stdout` are
+// worked by hand from the definitions in docs/MODEL.md.
 #![tactic(auto)]
 
 ghost use Rattle.std.specs.Prelude.{◌≡◌, ◌*◌, ◌<◌};
@@ -68,7 +68,7 @@ fn show_state(rt: &impl Print, environment: &impl Environment, state: u8) -> io:
     println!(rt; "")
 }
 
-// Everything that an environment answers: its counts and sets, a line for each state, and what comes for a state and an action that it
+// What an environment answers: its counts and sets, a line for each state, and what comes for a state and an action that it
 // does not have.
 fn show(rt: &impl Print, name: &str, environment: &impl Environment) -> io::Result<()> {
     let actions = environment.actions();

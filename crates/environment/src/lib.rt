@@ -4,6 +4,8 @@
 ghost use Rattle.std.specs.Prelude.{◌≡◌, ℕ};
 ghost use Rattle.environment.specs.System.{System, Sound, Over, is_legal};
 
+use sets::StateSet;
+
 // The limits of an environment.
 pub const MOST_ACTIONS: u8 = 8;
 
@@ -36,12 +38,12 @@ pub trait Environment: Alphabet {
         ensures alphabet { Over (Self.Alphabet.acts self.now) (Self.Alphabet.sights self.now) (meaning self.now) };
 
     // The set of the states that a run may begin in.
-    fn initial(&self) -> u64
+    fn initial(&self) -> StateSet
         ensures value { result ≡ (meaning self.now).initial }
         ensures alphabet { Over (Self.Alphabet.acts self.now) (Self.Alphabet.sights self.now) (meaning self.now) };
 
     // The set of the states that a run is to stop in.
-    fn goal(&self) -> u64
+    fn goal(&self) -> StateSet
         ensures value { result ≡ (meaning self.now).goal }
         ensures alphabet { Over (Self.Alphabet.acts self.now) (Self.Alphabet.sights self.now) (meaning self.now) };
 
@@ -50,7 +52,7 @@ pub trait Environment: Alphabet {
         ensures alphabet { Over (Self.Alphabet.acts self.now) (Self.Alphabet.sights self.now) (meaning self.now) };
 
     // The states to which the action may lead; none where it is not legal.
-    fn outcomes(&self, state: u8, action: u8) -> u64
+    fn outcomes(&self, state: u8, action: u8) -> StateSet
         ensures value { result ≡ (meaning self.now).outcomes state action }
         ensures alphabet { Over (Self.Alphabet.acts self.now) (Self.Alphabet.sights self.now) (meaning self.now) };
 
@@ -59,7 +61,7 @@ pub trait Environment: Alphabet {
         ensures value { result ≡ is_legal (meaning self.now) state action }
         ensures alphabet { Over (Self.Alphabet.acts self.now) (Self.Alphabet.sights self.now) (meaning self.now) }
     {
-        self.outcomes(state, action) != 0
+        !self.outcomes(state, action).is_empty()
     }
 
     ghost sound: { (e : Self) → Sound (meaning e) };

@@ -1,12 +1,12 @@
 -- Laws of the ways in which code goes through a set: the smallest state of it, what is left without another set or one state, and one
 -- state more.
-use Rattle.std.proofs.Common.{◌≡◌, ℕ, zero, suc, ◌+◌, ◌-◌, ◌*◌, ◌/◌, ◌%◌, ◌^◌, ◌<◌, ◌≤◌, true, false, not, ◌&&◌, ◌||◌, eqb, ◌⊎◌, sym, refl, ap, ◌∙◌, subst, inl, inr, pow-suc, div-one, arith}
+use Rattle.std.proofs.Common.{◌≡◌, cond, ltb, ℕ, zero, suc, ◌+◌, ◌-◌, ◌*◌, ◌/◌, ◌%◌, ◌^◌, ◌<◌, ◌≤◌, true, false, not, ◌&&◌, ◌||◌, eqb, ◌⊎◌, sym, refl, ap, ◌∙◌, subst, ap₂, inl, inr, pow-suc, div-one, arith}
 use lib.Bits.{bit_and, bit_or, or_disjoint, and_le_l}
 use lib.Count.{count_trailing_zeros, under}
-use Rattle.std.proofs.lemmas.Bool.{cases_eq, cases_lt, cases_Bool, both_ways, eq-eqb, ne_eqb, not_from_true, not_from_false, not-true, and_parts, and_from, and_left, and_right}
+use Rattle.std.proofs.lemmas.Bool.{cases_eq, cases_lt, cases_Bool, both_ways, eq-eqb, ne_eqb, not_from_true, not_from_false, not-true, le-ltb, lt-ltb, and_parts, and_from, and_left, and_right, or_right}
 use Rattle.std.proofs.lemmas.Nat.{one_shl, or_lt, pow_below, pow_pos}
-use Rattle.sets.specs.Mask.{has}
-use Rattle.sets.proofs.Bits.{has-or, has-and, has_one, has_none, has_above, has_in, has-not, has-suc, same_set}
+use Rattle.sets.specs.Mask.{has, only, Smallest, Takes}
+use Rattle.sets.proofs.Bits.{has-or, has-and, has_one, has_none, has_above, has_in, has-not, has-suc, has_self, same_set}
 
 low_bit : (a : ℕ) → has a 0 ≡ eqb (a % 2) 1
 unfolding has
@@ -16,26 +16,29 @@ half_lt : (n x : ℕ) → x < 2 ^ suc n → x / 2 < 2 ^ n
 half_lt n x lt = omega (arith, pow-suc 2 n)
 
 -- the smallest state of a set that is not empty
-pub record Smallest (n x t : ℕ) : Type 0 where
+record Least (n x t : ℕ) : Type 0 where
   pub below : t < n
   pub here : has x t ≡ true
   pub before : (k : ℕ) → k < t → has x k ≡ false
 
-pub smallest : (n x : ℕ) → 0 < x → x < 2 ^ n → Smallest n x (count_trailing_zeros n x)
+least : (n x : ℕ) → 0 < x → x < 2 ^ n → Least n x (count_trailing_zeros n x)
 unfolding count_trailing_zeros
-smallest zero x h lt = absurd (omega arith)
-smallest (suc n) x h lt = by_digit (λ g. smallest n (x / 2) g (half_lt n x lt)) (x % 2) refl
+least zero x h lt = absurd (omega arith)
+least (suc n) x h lt = by_digit (λ g. least n (x / 2) g (half_lt n x lt)) (x % 2) refl
   where
     lower : (t : ℕ) → x % 2 ≡ 0 → ((k : ℕ) → k < t → has (x / 2) k ≡ false) → (k : ℕ) → k < suc t → has x k ≡ false
     lower t e b zero l = low_bit x ∙ ne_eqb _ _ (λ q. omega arith)
     lower t e b (suc k) l = has-suc x k ∙ b k (omega arith)
 
-    by_digit : (0 < x / 2 → Smallest n (x / 2) (count_trailing_zeros n (x / 2))) → (d : ℕ) → x % 2 ≡ d → Smallest (suc n) x (under d (count_trailing_zeros n (x / 2)))
+    by_digit : (0 < x / 2 → Least n (x / 2) (count_trailing_zeros n (x / 2))) → (d : ℕ) → x % 2 ≡ d → Least (suc n) x (under d (count_trailing_zeros n (x / 2)))
     by_digit ih zero e =
         let r = ih (omega arith) in
         record { below = omega (arith, r.below); here = has-suc x (count_trailing_zeros n (x / 2)) ∙ r.here; before = lower (count_trailing_zeros n (x / 2)) e r.before }
     by_digit ih (suc zero) e = record { below = omega arith; here = low_bit x ∙ eq-eqb _ _ e; before = λ k l. absurd (omega arith) }
     by_digit ih (suc (suc d)) e = absurd (omega arith)
+
+pub smallest : (x : ℕ) → 0 < x → x < 2 ^ 64 → Smallest x (count_trailing_zeros 64 x)
+smallest x h lt = let t = least 64 x h lt in record { below = t.below; here = t.here; before = t.before }
 
 -- a state that is new makes the number larger
 pub or_new : (x t : ℕ) → has x t ≡ false → bit_or x (2 ^ t) ≡ x + 2 ^ t
@@ -64,7 +67,7 @@ without-lt a b h = omega (arith, and_le_l a (2 ^ 64 - 1 - b))
 pub left_some : (a b : ℕ) → a < 2 ^ 64 → b < 2 ^ 64 → 0 < without a b
     → (count_trailing_zeros 64 (without a b) < 64) × (has a (count_trailing_zeros 64 (without a b)) ≡ true) × (has b (count_trailing_zeros 64 (without a b)) ≡ false)
 left_some a b ha hb h =
-    let t = smallest 64 (without a b) h (without-lt a b ha) in
+    let t = smallest (without a b) h (without-lt a b ha) in
     let k = count_trailing_zeros 64 (without a b) in
     let p = and_parts (has a k) (not (has b k)) (sym (has_without a b k ha hb) ∙ t.here) in
     (t.below, p.0, not-true (has b k) p.1)
@@ -110,11 +113,7 @@ module _ (x s : ℕ) (fit : x < 2 ^ 64) (st : s < 64) where
 
 -- a loop over the states of a set, the smallest first, ends
 pub first_falls : (x : ℕ) → 0 < x → x < 2 ^ 64 → cleared x (count_trailing_zeros 64 x) < x
-first_falls x some fit = let t = smallest 64 x some fit in cleared-lt x (count_trailing_zeros 64 x) fit t.below t.here
-
--- the smallest state of a set of states below a count is below the count
-pub smallest-lt : (n x k : ℕ) → 0 < x → x < 2 ^ n → x < 2 ^ k → count_trailing_zeros n x < k
-smallest-lt n x k some fit lt = has_in x k (count_trailing_zeros n x) lt (smallest n x some fit).here
+first_falls x some fit = let t = smallest x some fit in cleared-lt x (count_trailing_zeros 64 x) fit t.below t.here
 
 -- an empty set has no state
 pub has_empty : (x t : ℕ) → x ≡ 0 → has x t ≡ false
@@ -124,7 +123,7 @@ has_empty x t z = ap (λ (y : ℕ). has y t) z ∙ has_none t
 pub shared_some : (a b : ℕ) → a < 2 ^ 64 → 0 < bit_and a b → (t : ℕ) × (has a t ≡ true) × (has b t ≡ true)
 shared_some a b fit some =
     let k = count_trailing_zeros 64 (bit_and a b) in
-    let t = smallest 64 (bit_and a b) some (omega (arith, and_le_l a b)) in
+    let t = smallest (bit_and a b) some (omega (arith, and_le_l a b)) in
     let p = and_parts (has a k) (has b k) (sym (has-and a b k) ∙ t.here) in
     (k, p.0, p.1)
 
@@ -160,3 +159,28 @@ added_fits x s fit st = or_lt 64 x _ fit (subst (λ (y : ℕ). y < 2 ^ 64) (sym 
 
 pub added_more : (x s : ℕ) → s < 64 → has x s ≡ false → x < added x s
 added_more x s st new = omega (arith, ap (bit_or x) (one_shl s 64 st), or_new x s new, pow_pos s)
+
+-- what is in the set that `only` makes
+pub has_only : (s t : ℕ) → has (cond (ltb s 64) (only s) 0) t ≡ (ltb s 64 && eqb s t)
+has_only s t = elim (cases_lt s 64) [ inl l ↦ rw (lt-ltb s 64 l) (has_one s t) | inr g ↦ rw (le-ltb s 64 g) (has_none t) ]
+
+-- what is left once the state s is taken
+abbrev pub Left : ℕ → ℕ → ℕ → Type 0
+Left set s left = (t : ℕ) → has left t ≡ (has set t && not (eqb s t))
+
+module _ (set s left : ℕ) (here : has set s ≡ true) (taken : Left set s left) where
+  -- the number of the set falls
+  pub left-lt : left < set
+  left-lt = omega (arith, same_set set (bit_or left (2 ^ s)) back, or_new left s gone, pow_pos s)
+    where
+      gone : has left s ≡ false
+      gone = taken s ∙ and_right (has set s) _ (not_from_true _ (eq-eqb s s refl))
+
+      other : (t : ℕ) → eqb s t ≡ false → ((has set t && not (eqb s t)) || eqb s t) ≡ has set t
+      other t e = elim (cases_Bool (has set t)) [ inl a ↦ rw (e, a) refl | inr a ↦ rw (e, a) refl ]
+
+      back : (t : ℕ) → has set t ≡ has (bit_or left (2 ^ s)) t
+      back t = elim (cases_eq s t) [
+        | inl e ↦ subst (λ (x : ℕ). has set x ≡ has (bit_or left (2 ^ s)) x) e (here ∙ sym (has-or left (2 ^ s) s ∙ or_right (has left s) _ (has_self s)))
+        | inr ne ↦ sym (has-or left (2 ^ s) t ∙ ap₂ ◌||◌ (taken t) (has_one s t) ∙ other t (ne_eqb s t ne))
+      ]

@@ -1,79 +1,145 @@
-// A set of states is a 64-bit mask: bit t stands for state t.
+// Sets of states, as 64-bit masks: bit t stands for state t.
 #![tactic(auto)]
 
-ghost use Rattle.std.specs.Prelude.{◌≡◌, ℕ, ◌^◌, ◌<◌, ◌≤◌, min, not, ◌&&◌, ◌||◌, ltb, if◌then◌else◌, Decides, ◌==◌, nat_lt};
+ghost use Rattle.std.specs.Prelude.{◌≡◌, ℕ, ◌^◌, ◌<◌, min, not, ◌&&◌, ◌||◌, if◌then◌else◌, true, Decides, MatchOption, ◌==◌, nat_lt};
 ghost use Rattle.sets.specs.Laws.{SetLaws};
-ghost use Rattle.sets.specs.Mask.{has, only as single};
+ghost use Rattle.sets.specs.Mask.{has, only as single, Smallest};
 
-// Is the bit of a state set?
-fn bit(set: u64, state: u8) -> bool
-    requires { state < 64 }
-    ensures { result ≡ has set state }
-{
-    (set >> state) & 1 == 1
+use std::marker::Model;
+
+mod states;
+
+pub use crate::states::States;
+
+// A set of states, of which there are at most 64. A clause sees its mask, a number.
+#[derive(Clone, Copy, Debug, PartialEq, Eq)]
+pub struct StateSet {
+    mask: u64,
 }
 
-// Is the state in the set? No set holds a state past 63.
-pub fn contains(set: u64, state: u8) -> bool
-    ensures { result ≡ has set state }
-{
-    state < 64 && bit(set, state)
+impl Model for StateSet {
+    ghost Value = { ℕ };
+
+    ghost view = { λ s. s.mask };
+
+    ghost invariant = { λ s. s.mask < 2 ^ 64 };
+
+    ghost inverse = { λ n. record { mask = n } };
 }
 
-// The set of one state; there is none for a state past 63.
-pub fn only(state: u8) -> u64
-    ensures { result ≡ (if ltb state 64 then single state else 0) }
-{
-    if state < 64 { 1 << state } else { 0 }
-}
+impl From<u64> for StateSet {
+    ghost from_gives = { λ mask set. set ≡ mask };
 
-// The set with the state in it; a state past 63 leaves the set as it is.
-pub fn with(set: u64, state: u8) -> u64
-    ensures { (t : ℕ) → has result t ≡ (has set t || (nat_lt state 64 && state == t)) }
-{
-    if state < 64 { set | (1 << state) } else { set }
-}
-
-// The states of the set that are not in the other.
-pub fn without(set: u64, other: u64) -> u64
-    ensures { (t : ℕ) → has result t ≡ (has set t && not (has other t)) }
-{
-    set & !other
-}
-
-// The set of all states below a count that is not 0.
-fn first_states(count: u8) -> u64
-    requires some { 0 < count }
-    requires few { count ≤ 64 }
-    ensures { (t : ℕ) → has result t ≡ nat_lt t count }
-{
-    u64::MAX >> (64 - count)
-}
-
-// The set of all states below the count, of the 64 that a set can hold.
-pub fn below(count: u8) -> u64
-    ensures { (t : ℕ) → has result t ≡ nat_lt t (min count 64) }
-{
-    if count == 0 {
-        0
-    } else {
-        first_states(count.min(64))
+    fn from(mask: u64) -> StateSet {
+        StateSet { mask }
     }
 }
 
-// Is nothing of the set left after a shift?
-fn fits(set: u64, count: u8) -> bool
-    requires { count < 64 }
-    ensures { Decides result (set < 2 ^ count) }
-{
-    set >> count == 0
+impl From<StateSet> for u64 {
+    ghost from_gives = { λ set mask. mask ≡ set };
+
+    fn from(set: StateSet) -> u64 {
+        set.mask
+    }
 }
 
-// Does the set hold only states below the count?
-pub fn within(set: u64, count: u8) -> bool
-    ensures { Decides result (set < 2 ^ count) }
-{
-    count >= 64 || fits(set, count)
+impl StateSet {
+    // No state at all.
+    pub const EMPTY: StateSet = StateSet { mask: 0 };
+
+    // The set of one state; there is none for a state past 63.
+    pub fn only(state: u8) -> StateSet
+        ensures { result ≡ (if nat_lt state 64 then single state else 0) }
+    {
+        StateSet {
+            mask: if state < 64 { 1 << state } else { 0 },
+        }
+    }
+
+    // The set of all states below the count, of the 64 that a set can hold.
+    pub fn below(count: u8) -> StateSet
+        ensures { (t : ℕ) → has result t ≡ nat_lt t (min count 64) }
+    {
+        StateSet {
+            mask: if count == 0 {
+                0
+            } else {
+                u64::MAX >> (64 - count.min(64))
+            },
+        }
+    }
+
+    pub fn is_empty(self) -> bool
+        ensures { Decides result (self ≡ 0) }
+    {
+        self.mask == 0
+    }
+
+    // Is the state in the set? No set holds a state past 63.
+    pub fn contains(self, state: u8) -> bool
+        ensures { result ≡ has self state }
+    {
+        state < 64 && (self.mask >> state) & 1 == 1
+    }
+
+    // Does the set hold only states below the count?
+    pub fn within(self, count: u8) -> bool
+        ensures { Decides result (self < 2 ^ count) }
+    {
+        count >= 64 || self.mask >> count == 0
+    }
+
+    // The smallest state of the set.
+    pub fn first(self) -> Option<u8>
+        ensures { MatchOption result (self ≡ 0) (λ s. Smallest self s) }
+    {
+        if self.mask == 0 {
+            None
+        } else {
+            Some(self.mask.trailing_zeros() as u8)
+        }
+    }
+
+    // The set with the state in it; a state past 63 leaves the set as it is.
+    pub fn with(self, state: u8) -> StateSet
+        ensures { (t : ℕ) → has result t ≡ (has self t || (nat_lt state 64 && state == t)) }
+    {
+        self.union(StateSet::only(state))
+    }
+
+    // The states of the set that are not in the other.
+    pub fn without(self, other: StateSet) -> StateSet
+        ensures { (t : ℕ) → has result t ≡ (has self t && not (has other t)) }
+    {
+        StateSet {
+            mask: self.mask & !other.mask,
+        }
+    }
+
+    // The states of either set.
+    pub fn union(self, other: StateSet) -> StateSet
+        ensures { (t : ℕ) → has result t ≡ (has self t || has other t) }
+    {
+        StateSet {
+            mask: self.mask | other.mask,
+        }
+    }
+
+    // The states of both sets.
+    pub fn intersection(self, other: StateSet) -> StateSet
+        ensures { (t : ℕ) → has result t ≡ (has self t && has other t) }
+    {
+        StateSet {
+            mask: self.mask & other.mask,
+        }
+    }
+
+    // Its states, the smallest first.
+    pub fn states(self) -> States
+        ensures { result ≡ self }
+    {
+        States::of(self)
+    }
 }
 
 // The laws of sets, which every proof about masks rests on.

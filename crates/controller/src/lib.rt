@@ -2,4 +2,5 @@
 #![tactic(auto)]
 
 pub mod entry;
+pub mod place;
 pub mod table;

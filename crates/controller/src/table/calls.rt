@@ -3,6 +3,7 @@ ghost use Rattle.controller.specs.Tables.{entry_at, inside, place, read_as, Writ
 ghost use Rattle.controller.specs.declared.entry.Entry.TheVariants.{Blank as blank};
 
 use crate::entry::Entry;
+use crate::place::Place;
 use crate::table::{MOST_MEMORIES, Table};
 use environment::{MOST_ACTIONS, MOST_OBSERVATIONS};
 
@@ -45,48 +46,39 @@ impl Table {
         ensures { result ≡ read_as self.now entry }
     {
         match entry {
-            Entry::Move { action, next } => {
-                if action < self.actions && next < self.memories {
-                    entry
-                } else {
-                    Entry::Blank
-                }
+            Entry::Move { action, next } if action >= self.actions || next >= self.memories => {
+                Entry::Blank
             }
             _ => entry,
         }
     }
 
-    // Where the entry for a memory and an observation stands, if the table has it.
-    fn place(&self, memory: u8, observation: u8) -> Option<usize>
-        ensures at { result ≡ (if inside self.now memory observation then Some (place self.now memory observation) else None) }
+    // Where the entry of a place stands in `entries`, if the table has it.
+    fn index(&self, at: Place) -> Option<usize>
+        ensures at { result ≡ (if inside self.now at.memory at.observation then Some (place self.now at.memory at.observation) else None) }
         ensures within { IfSome result (λ k. k < 64) }
     {
-        if memory < self.memories && observation < self.observations {
-            Some(memory as usize * self.observations as usize + observation as usize)
+        if at.memory < self.memories && at.observation < self.observations {
+            Some(at.memory as usize * self.observations as usize + at.observation as usize)
         } else {
             None
         }
     }
 
-    // The entry for a memory and an observation; blank where the table has none or it is not valid.
-    pub fn entry(&self, memory: u8, observation: u8) -> Entry
-        ensures { result ≡ entry_at self.now memory observation }
+    // The entry at a place; blank where the table has none or it is not valid.
+    pub fn entry(&self, at: Place) -> Entry
+        ensures { result ≡ entry_at self.now at.memory at.observation }
     {
-        match self.place(memory, observation) {
-            Some(place) => {
-                let entry = self.entries[place];
-                self.valid(entry)
-            }
-            None => Entry::Blank,
-        }
+        self.index(at)
+            .map_or(Entry::Blank, |index| self.valid(self.entries[index]))
     }
 
-    // Writes an entry; where the table has none for the memory and the observation, nothing changes.
-    pub fn set(&mut self, memory: u8, observation: u8, entry: Entry)
-        ensures { Written memory observation entry self.old self.new }
+    // Writes an entry; where the table has none at the place, nothing changes.
+    pub fn set(&mut self, at: Place, entry: Entry)
+        ensures { Written at.memory at.observation entry self.old self.new }
     {
-        if let Some(place) = self.place(memory, observation) {
-            self.entries[place] = entry;
+        if let Some(index) = self.index(at) {
+            self.entries[index] = entry;
         }
     }
 }

@@ -1,4 +1,2 @@
-pub mod Masks
-pub mod Puts
-pub mod Sweeps
 pub mod Live
+pub mod Sweeps

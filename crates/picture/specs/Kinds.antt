@@ -1,36 +1,45 @@
 -- What a picture says of each configuration.
-use Rattle.std.specs.Prelude.{◌≡◌, ℕ, ◌+◌, ◌*◌, ◌<◌, Bool, true, false, cond, not, ◌&&◌, ◌||◌, slice_index}
-use Rattle.sets.specs.Mask.{has}
+use Rattle.std.specs.Prelude.{◌≡◌, ℕ, ◌+◌, ◌*◌, ◌<◌, Bool, true, false, cond, not, ◌&&◌, ◌||◌, slice_index_or}
+use Rattle.std.proofs.Common.{arith}
+use Rattle.configurations.specs.Holds.{holds}
+use Rattle.configurations.specs.declared.Configuration.{Configuration}
 use Rattle.picture.specs.declared.Kind.{Kind}
 use Rattle.picture.specs.declared.Kind.TheVariants.{NotReached, Open, StoppedInGoal, StoppedOffGoal, Stuck, Moving}
 use Rattle.picture.specs.declared.Picture.{Picture}
-use Rattle.picture.specs.declared.Configuration.{Configuration}
+use Rattle.picture.specs.declared.Step.{Step}
 
 abbrev pub is_reached : Picture → ℕ → ℕ → Bool
-is_reached p m s = has (slice_index p.reached m) s
+is_reached p m s = holds p.reached m s
 
 abbrev pub is_open : Picture → ℕ → ℕ → Bool
-is_open p m s = has (slice_index p.opened m) s
+is_open p m s = holds p.opened m s
 
 abbrev pub is_in_goal : Picture → ℕ → ℕ → Bool
-is_in_goal p m s = has (slice_index p.finished m) s
+is_in_goal p m s = holds p.finished m s
 
 abbrev pub is_off_goal : Picture → ℕ → ℕ → Bool
-is_off_goal p m s = has (slice_index p.missed m) s
+is_off_goal p m s = holds p.missed m s
 
 abbrev pub is_stuck : Picture → ℕ → ℕ → Bool
-is_stuck p m s = has (slice_index p.stuck m) s
+is_stuck p m s = holds p.stuck m s
 
 -- A reached configuration that is nothing else moves.
 abbrev pub is_moving : Picture → ℕ → ℕ → Bool
 is_moving p m s = is_reached p m s && not (is_open p m s || (is_in_goal p m s || (is_off_goal p m s || is_stuck p m s)))
 
+-- The step that stands at a place that a picture does not have.
+abbrev pub no_step : Step
+no_step = record { next = 0; outcomes = 0; near = omega arith }
+
 -- What configuration (m, s) does if it moves.
+abbrev pub step_at : Picture → ℕ → ℕ → Step
+step_at p m s = slice_index_or p.steps (m * 64 + s) no_step
+
 abbrev pub next_of : Picture → ℕ → ℕ → ℕ
-next_of p m s = slice_index p.nexts (m * 64 + s)
+next_of p m s = (step_at p m s).next
 
 abbrev pub outcomes_of : Picture → ℕ → ℕ → ℕ
-outcomes_of p m s = slice_index p.outcomes (m * 64 + s)
+outcomes_of p m s = (step_at p m s).outcomes
 
 -- The kind of configuration (m, s).
 abbrev pub kind_at : Picture → ℕ → ℕ → Kind

@@ -1,31 +1,16 @@
-ghost use Rattle.std.specs.Prelude.{◌≡◌, ℕ, false, ◌||◌, MatchOption, slice_index};
-ghost use Rattle.sets.specs.Mask.{has};
-ghost use Rattle.picture.specs.Kinds.{kind_at, is_open, is_in_goal, is_off_goal, is_stuck, is_moving, FirstOpen};
+ghost use Rattle.std.specs.Prelude.{◌≡◌, ℕ, ◌+◌, ◌*◌, ◌<◌, false, MatchOption};
+ghost use Rattle.configurations.specs.Holds.{holds};
+ghost use Rattle.picture.specs.Kinds.{kind_at, step_at, is_open, is_moving, FirstOpen};
 ghost use Rattle.picture.specs.declared.Kind.TheVariants.{NotReached};
 
-use crate::{Configuration, Kind, MEMORIES, Picture, STATES};
-use sets::{contains, without};
+use crate::{Configuration, Configurations, Kind, Picture, STATES, Step};
+use sets::StateSet;
 
-// One memory's set; there is none past the last memory.
-fn row(masks: &[u64; 4], memory: u8) -> u64
-    ensures { result ≡ slice_index masks.now memory }
+// Where the step of a configuration stands.
+pub(crate) fn place(at: Configuration) -> usize
+    ensures { result ≡ at.memory * 64 + at.state }
 {
-    let m = memory as usize;
-    if m < MEMORIES { masks[m] } else { 0 }
-}
-
-// No state at any memory.
-fn nowhere() -> [u64; 4]
-    ensures { (m s : ℕ) → has (slice_index result m) s ≡ false }
-{
-    [0; 4]
-}
-
-// No moves: every place has next memory 0 and no outcomes.
-fn no_moves() -> ([u8; 256], [u64; 256])
-    ensures { (k : ℕ) → (slice_index result.0 k ≡ 0) × (slice_index result.1 k ≡ 0) }
-{
-    ([0; 256], [0; 256])
+    at.memory as usize * STATES + at.state as usize
 }
 
 impl Picture {
@@ -33,83 +18,87 @@ impl Picture {
     pub fn blank() -> Picture
         ensures { (m s : ℕ) → kind_at result m s ≡ NotReached }
     {
-        let (nexts, outcomes) = no_moves();
         Picture {
-            reached: nowhere(),
-            opened: nowhere(),
-            finished: nowhere(),
-            missed: nowhere(),
-            stuck: nowhere(),
-            nexts,
-            outcomes,
+            reached: Configurations::none(),
+            opened: Configurations::none(),
+            finished: Configurations::none(),
+            missed: Configurations::none(),
+            stuck: Configurations::none(),
+            steps: [Step {
+                next: 0,
+                outcomes: StateSet::EMPTY,
+            }; 256],
         }
     }
 
-    // The states that are reached at the memory, and those of each kind among them.
-    pub fn reached(&self, memory: u8) -> u64
-        ensures { result ≡ slice_index self.now.reached memory }
+    // The configurations that are reached, and those of each kind among them.
+    pub fn reached(&self) -> Configurations
+        ensures { result ≡ self.now.reached }
     {
-        row(&self.reached, memory)
+        self.reached
     }
 
-    pub fn open(&self, memory: u8) -> u64
-        ensures { result ≡ slice_index self.now.opened memory }
+    pub fn open(&self) -> Configurations
+        ensures { result ≡ self.now.opened }
     {
-        row(&self.opened, memory)
+        self.opened
     }
 
-    pub fn in_goal(&self, memory: u8) -> u64
-        ensures { result ≡ slice_index self.now.finished memory }
+    pub fn in_goal(&self) -> Configurations
+        ensures { result ≡ self.now.finished }
     {
-        row(&self.finished, memory)
+        self.finished
     }
 
-    pub fn off_goal(&self, memory: u8) -> u64
-        ensures { result ≡ slice_index self.now.missed memory }
+    pub fn off_goal(&self) -> Configurations
+        ensures { result ≡ self.now.missed }
     {
-        row(&self.missed, memory)
+        self.missed
     }
 
-    pub fn stuck(&self, memory: u8) -> u64
-        ensures { result ≡ slice_index self.now.stuck memory }
+    pub fn stuck(&self) -> Configurations
+        ensures { result ≡ self.now.stuck }
     {
-        row(&self.stuck, memory)
+        self.stuck
     }
 
-    // The states that go no further here: open, stopped or stuck.
-    fn still(&self, memory: u8) -> u64
-        ensures { (s : ℕ) → has result s ≡ (is_open self.now memory s || (is_in_goal self.now memory s || (is_off_goal self.now memory s || is_stuck self.now memory s))) }
+    // The configurations that move on from where they are.
+    pub fn moving(&self) -> Configurations
+        ensures { (m s : ℕ) → holds result m s ≡ is_moving self.now m s }
     {
-        self.open(memory) | self.in_goal(memory) | self.off_goal(memory) | self.stuck(memory)
+        self.reached
+            .without(&self.opened)
+            .without(&self.finished)
+            .without(&self.missed)
+            .without(&self.stuck)
     }
 
-    // The states that move on from here.
-    pub fn moving(&self, memory: u8) -> u64
-        ensures { (s : ℕ) → has result s ≡ is_moving self.now memory s }
+    // What a configuration does, if it moves.
+    pub(crate) fn step(&self, at: Configuration) -> Step
+        requires memory { at.memory < 4 }
+        requires state { at.state < 64 }
+        ensures { result ≡ step_at self.now at.memory at.state }
     {
-        without(self.reached(memory), self.still(memory))
+        self.steps[place(at)]
     }
 
     // The kind of a configuration; one that no picture has is not reached.
-    pub fn kind(&self, memory: u8, state: u8) -> Kind
-        ensures { result ≡ kind_at self.now memory state }
+    pub fn kind(&self, at: Configuration) -> Kind
+        ensures { result ≡ kind_at self.now at.memory at.state }
     {
-        if !contains(self.reached(memory), state) {
+        if !self.reached.contains(at) {
             Kind::NotReached
-        } else if contains(self.open(memory), state) {
+        } else if self.opened.contains(at) {
             Kind::Open
-        } else if contains(self.in_goal(memory), state) {
+        } else if self.finished.contains(at) {
             Kind::StoppedInGoal
-        } else if contains(self.off_goal(memory), state) {
+        } else if self.missed.contains(at) {
             Kind::StoppedOffGoal
-        } else if contains(self.stuck(memory), state) {
+        } else if self.stuck.contains(at) {
             Kind::Stuck
         } else {
-            let place = memory as usize * STATES + state as usize;
-            Kind::Moving {
-                next: self.nexts[place],
-                outcomes: self.outcomes[place],
-            }
+            let Step { next, outcomes } = self.step(at);
+            Kind::Moving { next, outcomes }
         }
     }
 
@@ -117,15 +106,6 @@ impl Picture {
     pub fn first_open(&self) -> Option<Configuration>
         ensures { MatchOption result ((m s : ℕ) → is_open self.now m s ≡ false) (λ c. FirstOpen self.now c) }
     {
-        for memory in 0..MEMORIES {
-            let open = self.opened[memory];
-            if open != 0 {
-                return Some(Configuration {
-                    memory: memory as u8,
-                    state: open.trailing_zeros() as u8,
-                });
-            }
-        }
-        None
+        self.opened.first()
     }
 }

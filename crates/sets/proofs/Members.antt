@@ -40,6 +40,14 @@ least (suc n) x h lt = by_digit (λ g. least n (x / 2) g (half_lt n x lt)) (x % 
 pub smallest : (x : ℕ) → 0 < x → x < 2 ^ 64 → Smallest x (count_trailing_zeros 64 x)
 smallest x h lt = let t = least 64 x h lt in record { below = t.below; here = t.here; before = t.before }
 
+below_pow : (n : ℕ) → n < 2 ^ n
+below_pow zero = pow_pos 0
+below_pow (suc n) = let h = below_pow n in omega (arith, pow-suc 2 n)
+
+-- a set that is not empty has a state
+pub some_state : (x : ℕ) → (x ≡ 0 → ⊥) → (t : ℕ) × (has x t ≡ true)
+some_state x ne = let t = least x x (omega (arith, ne)) (below_pow x) in (count_trailing_zeros x x, t.here)
+
 -- a state that is new makes the number larger
 pub or_new : (x t : ℕ) → has x t ≡ false → bit_or x (2 ^ t) ≡ x + 2 ^ t
 or_new x t h = or_disjoint x (2 ^ t) (same_set (bit_and x (2 ^ t)) 0 (λ k. has-and x (2 ^ t) k ∙ both k ∙ sym (has_none k)))
@@ -163,6 +171,16 @@ added_more x s st new = omega (arith, ap (bit_or x) (one_shl s 64 st), or_new x 
 -- what is in the set that `only` makes
 pub has_only : (s t : ℕ) → has (cond (ltb s 64) (only s) 0) t ≡ (ltb s 64 && eqb s t)
 has_only s t = elim (cases_lt s 64) [ inl l ↦ rw (lt-ltb s 64 l) (has_one s t) | inr g ↦ rw (le-ltb s 64 g) (has_none t) ]
+
+-- a state past 63 is in no set, so that it does not matter whether it is taken out
+pub has_except : (x s t : ℕ) → x < 2 ^ 64 → (has x t && not (ltb s 64 && eqb s t)) ≡ (has x t && not (eqb s t))
+has_except x s t fit = elim (cases_lt s 64) [
+  | inl l ↦ rw (lt-ltb s 64 l) refl
+  | inr g ↦ elim (cases_eq s t) [
+    | inl e ↦ rw (has_above x 64 t fit (omega arith)) refl
+    | inr ne ↦ rw (le-ltb s 64 g, ne_eqb s t ne) refl
+  ]
+]
 
 -- what is left once the state s is taken
 abbrev pub Left : ℕ → ℕ → ℕ → Type 0

@@ -107,6 +107,15 @@ impl StateSet {
         self.union(StateSet::only(state))
     }
 
+    // The set without the state in it.
+    pub fn except(self, state: u8) -> StateSet
+        ensures { (t : ℕ) → has result t ≡ (has self t && not (state == t)) }
+    {
+        StateSet {
+            mask: self.mask & !StateSet::only(state).mask,
+        }
+    }
+
     // The states of the set that are not in the other.
     pub fn without(self, other: StateSet) -> StateSet
         ensures { (t : ℕ) → has result t ≡ (has self t && not (has other t)) }

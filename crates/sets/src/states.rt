@@ -36,7 +36,7 @@ impl Iterator for States {
 
     fn next(&mut self) -> Option<u8> {
         let first = self.left.first()?;
-        self.left = self.left.without(StateSet::only(first));
+        self.left = self.left.except(first);
         Some(first)
     }
 }

@@ -1,36 +1,35 @@
-use Rattle.std.proofs.Common.{refl, ◌∙◌, arith}
-use Rattle.std.proofs.lemmas.List.{length-set}
-use Rattle.std.proofs.lemmas.Bool.{both_ways}
-use Rattle.picture.proofs.Live.{live_none, live_rests, live_moves, live_all}
-use Rattle.picture.proofs.Masks.{none_in}
+use Rattle.std.proofs.Common.{ℕ, ◌≡◌, true, false, ◌&&◌, ◌||◌, eqb, sym, ap, ◌∙◌}
+use Rattle.sets.specs.Mask.{has}
+use Rattle.configurations.specs.Holds.{holds}
+use Rattle.picture.proofs.Live.{In, left_in, left_out, all_in, fewer_left, live_none, live_rests, live_moves, live_all}
 use Rattle.picture.proofs.Picture.draw.Goals as goal
-
-pub invariant_of-self : goal.invariant_of-self
-invariant_of-self g c =
-    record { parted = λ m s. rw (none_in m s); bounded = λ m s h. absurd (both_ways _ (none_in m s) h); near = c.args.self.now.near; narrow = c.args.self.now.narrow }
+use Rattle.picture.proofs.Picture.draw.Goals.{in-Moving, in_default-kind}
 
 pub loop-at-init : goal.loop-at-init
-loop-at-init g c = (refl, live_none (g.E.Environment.meaning c.args.environment.now) c.args.table.now _ c.initial.result c.initial.ensures.value none_in)
+loop-at-init g c =
+    live_none _ _ _ c.none-marks.result c.add.new.self c.none-marks.ensures
+    (λ m s. c.add.ensures m s ∙ ap (λ (y : ℕ). holds c.none-marks.result m s || (eqb 0 m && has y s)) c.initial.ensures.value) c.none-self.ensures
 
-pub loop-at-preserved-in-Moving : goal.loop-at-preserved-in-Moving
-loop-at-preserved-in-Moving g c =
+pub loop-at-smaller : goal.loop-at-smaller
+loop-at-smaller g c =
     let at = c.in-Some.ensures in
-    let near = c.in-Moving.ensures.reached in (
-      length-set c.loop-at.marks c.in-Moving.next _ ∙ c.loop-at.invariant.0,
-      live_moves (g.E.Environment.meaning c.args.environment.now) c.args.table.now c.loop-at.self c.put.new.self c.loop-at.marks
-          c.in-Some.at.memory c.in-Some.at.state c.kind_of-kind.result c.loop-at.invariant.1 at.2 at.3 c.put.ensures c.kind_of-kind.ensures.value
-          c.in-Moving.next c.in-Moving.outcomes c.in-Moving.is (omega (arith, near, c.loop-at.invariant.0)),
-    )
+    fewer_left c.loop-at.self c.put.new.self _ _ _ at.memory (left_out _ _ _ c.without.ensures _ _ at.here) c.put.ensures
 
 pub loop-at-preserved : goal.loop-at-preserved
 loop-at-preserved g c =
-    let at = c.in-Some.ensures in (
-      c.loop-at.invariant.0,
-      live_rests (g.E.Environment.meaning c.args.environment.now) c.args.table.now c.loop-at.self c.put.new.self c.loop-at.marks
-          c.in-Some.at.memory c.in-Some.at.state c.kind_of-kind.result c.loop-at.invariant.1 at.2 at.3 c.put.ensures c.kind_of-kind.ensures.value
-          c.in_default-kind.not-Moving,
-    )
+    let at = c.in-Some.ensures in
+    let here = left_in _ _ _ c.without.ensures _ _ at.here in
+    let fresh = left_out _ _ _ c.without.ensures _ _ at.here in
+    elim c.match-kind.branch [
+      | in-Moving w ↦
+          rw w.marks-is
+          (live_moves _ _ c.loop-at.self c.put.new.self c.loop-at.marks _ _ c.match-kind.kind c.loop-at.invariant here fresh c.put.ensures (w.kind-is ∙ sym w.in-Moving.is ∙ c.kind_of-kind.ensures.value)
+              w.in-Moving.next w.in-Moving.outcomes _ w.kind-is w.in-Moving.ensures.reached w.add-in-Moving.ensures)
+      | in_default-kind w ↦
+          rw w.marks-is
+          (live_rests _ _ c.loop-at.self c.put.new.self c.loop-at.marks _ _ c.match-kind.kind c.loop-at.invariant here fresh c.put.ensures (w.kind-is ∙ c.kind_of-kind.ensures.value)
+              (λ n o e. w.in_default-kind.not-Moving n o (sym w.kind-is ∙ e)))
+    ]
 
 pub returns : goal.returns
-returns g c =
-    live_all (g.E.Environment.meaning c.args.environment.now) c.args.table.now c.loop-at.self c.loop-at.marks c.loop-at.invariant.1 c.in_default.ensures
+returns g c = live_all _ _ c.loop-at.self c.loop-at.marks c.loop-at.invariant (all_in _ _ _ c.without.ensures c.in_default.ensures)

@@ -1,15 +1,13 @@
-use Rattle.std.proofs.Common.{◌≡◌, ℕ, true, false, length, get_or}
-use Rattle.sets.specs.Mask.{has}
-use Rattle.picture.specs.Settling.{weight, Rests}
+use Rattle.std.proofs.Common.{◌≡◌, ℕ, true, false}
+use Rattle.configurations.specs.Holds.{holds, weight}
 use Rattle.picture.specs.Kinds.{is_moving}
+use Rattle.picture.specs.Settling.{Rests}
 use Rattle.picture.proofs.Picture.rests.Given as goal
 
--- only what moves waits, and all that does not wait comes to rest
+-- what waits moves, and what does not wait comes to rest
 abbrev pub invariant-loop-quorum : goal.invariant-loop-quorum
 invariant-loop-quorum l =
-    (length l.waiting ≡ 4)
-    × ((m s : ℕ) → has (get_or l.waiting m 0) s ≡ true → is_moving l.self m s ≡ true)
-    × ((m s : ℕ) → has (get_or l.waiting m 0) s ≡ false → Rests l.quorum l.self m s)
+    ((m s : ℕ) → holds l.waiting m s ≡ true → is_moving l.self m s ≡ true) × ((m s : ℕ) → holds l.waiting m s ≡ false → Rests l.quorum l.self m s)
 
 abbrev pub decreases-loop-quorum : goal.decreases-loop-quorum
 decreases-loop-quorum l = weight l.waiting

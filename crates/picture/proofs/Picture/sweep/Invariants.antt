@@ -1,11 +1,13 @@
-use Rattle.std.proofs.Common.{◌≡◌, ℕ, ◌<◌, true, false, get_or}
-use Rattle.sets.specs.Mask.{has}
-use Rattle.picture.specs.Settling.{Waits, weight, Swept}
+use Rattle.std.proofs.Common.{◌≡◌, ℕ, ◌<◌, true, false}
+use Rattle.configurations.specs.Holds.{holds, weight}
+use Rattle.picture.specs.Settling.{Waits, Swept}
 use Rattle.picture.proofs.Picture.sweep.Given as goal
 
-abbrev pub invariant-loop-memory : goal.invariant-loop-memory
-invariant-loop-memory l =
-    Swept l.quorum l.self l.initial.waiting l.waiting
+-- what is left was not looked at yet, and waits; as long as nothing was taken out, what was looked at has to wait
+abbrev pub invariant-loop-at : goal.invariant-loop-at
+invariant-loop-at l =
+    ((m s : ℕ) → holds l.at-iterator m s ≡ true → holds l.waiting m s ≡ true)
+    × Swept l.quorum l.self l.initial.waiting l.waiting
     × (l.more ≡ true → weight l.waiting < weight l.initial.waiting)
     × (l.more ≡ false → l.waiting ≡ l.initial.waiting)
-    × (l.more ≡ false → (m s : ℕ) → m < l.memory → has (get_or l.initial.waiting m 0) s ≡ true → Waits l.quorum l.self l.initial.waiting m s)
+    × (l.more ≡ false → (m s : ℕ) → holds l.initial.waiting m s ≡ true → holds l.at-iterator m s ≡ false → Waits l.quorum l.self l.initial.waiting m s)

@@ -15,6 +15,10 @@ same m s n t = m == n && s == t
 abbrev pub Nothing : List ℕ → Type 0
 Nothing c = (m s : ℕ) → holds c m s ≡ false
 
+-- Some configuration is in the set.
+abbrev pub Something : List ℕ → Type 0
+Something c = (m : ℕ) × (s : ℕ) × (holds c m s ≡ true)
+
 -- The configuration of smallest number in the set: smallest memory, then smallest state.
 pub record Foremost (c : List ℕ) (at : Configuration) : Type 0 where
   pub memory : at.memory < 4

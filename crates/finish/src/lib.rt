@@ -6,7 +6,7 @@ ghost use Rattle.picture.specs.declared.settling.Quorum.TheVariants.{Every, Any}
 ghost use Rattle.finish.specs.Rules.{Clean, RejectedBy, Spoilt};
 
 use picture::settling::Quorum;
-use picture::{MEMORIES, Picture};
+use picture::Picture;
 
 pub trait FinishRule {
     fn rejected(&self, picture: &Picture) -> bool;
@@ -24,12 +24,7 @@ pub struct Patient;
 fn spoilt(picture: &Picture) -> bool
     ensures { MatchBool result (Spoilt picture.now) (Clean picture.now) }
 {
-    for memory in 0..MEMORIES as u8 {
-        if picture.off_goal(memory) | picture.stuck(memory) != 0 {
-            return true;
-        }
-    }
-    false
+    !picture.off_goal().is_empty() || !picture.stuck().is_empty()
 }
 
 // What both rules reject, and what does not come to rest by the rule's own quorum. Under `Every` that is a cycle and what leads

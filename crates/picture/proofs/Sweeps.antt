@@ -4,7 +4,7 @@ use Rattle.std.proofs.Common.{◌≡◌, ℕ, Bool, true, false, not, ◌&&◌, 
 use Rattle.std.proofs.lemmas.Bool.{cases_Bool, both_ways, eqb-true, and_parts, and_from, not_from_false, not-true}
 use Rattle.sets.specs.Mask.{has}
 use Rattle.sets.proofs.Members.{has_empty, some_state}
-use Rattle.configurations.specs.Holds.{holds, Less}
+use Rattle.configurations.specs.Holds.{holds, Less, Nothing, Something}
 use Rattle.configurations.proofs.Sets.{gone}
 use Rattle.picture.specs.declared.Picture.{Picture}
 use Rattle.picture.specs.declared.settling.Quorum.{Quorum}
@@ -25,6 +25,11 @@ module _ (p : Picture) (c : List ℕ) (moves : (m s : ℕ) → holds c m s ≡ t
       let w = subst (λ (x : Quorum). Waits x p c m s) e (waits m s h) in waits_on d waits (all w.0 w.1) w.2
   waits_on d waits (one {m} {s} {u} e hu r) h = waits_on d waits r (subst (λ (x : Quorum). Waits x p c m s) e (waits m s h) u hu)
 
+-- a set in which nothing waits is empty
+pub none_waits : (c : List ℕ) (r : Bool) → MatchBool r (Nothing c) (Something c) → ((m s : ℕ) → holds c m s ≡ true → ⊥) → r ≡ true
+none_waits c true h none = refl
+none_waits c false h none = absurd (none h.0 h.1 h.2)
+
 -- nothing was taken out yet
 pub swept_none : (d : Quorum) (p : Picture) (c : List ℕ) → Swept d p c c
 swept_none d p c = record { fewer = λ m s h. h; sound = λ all. all }
@@ -40,7 +45,7 @@ swept_more d p x b a m s w less met = record {
 }
 
 -- whether a set is empty says whether every outcome waits no more, or any does
-pub out : (x : Bool) → (x ≡ true → ⊥) → x ≡ false
+out : (x : Bool) → (x ≡ true → ⊥) → x ≡ false
 out true h = absurd (h refl)
 out false h = refl
 

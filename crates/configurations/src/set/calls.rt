@@ -1,7 +1,7 @@
-ghost use Rattle.std.specs.Prelude.{◌≡◌, ℕ, ◌<◌, not, ◌&&◌, ◌||◌, Decides, MatchOption, ◌==◌, nat_lt, length, slice_index, slice_set};
+ghost use Rattle.std.specs.Prelude.{◌≡◌, ℕ, ◌<◌, not, ◌&&◌, ◌||◌, MatchBool, MatchOption, ◌==◌, nat_lt, length, slice_index, slice_set};
 ghost use Rattle.std.specs.Iterator.{at_most};
 ghost use Rattle.sets.specs.Mask.{has};
-ghost use Rattle.configurations.specs.Holds.{holds, same, Nothing, Foremost, Less, Takes, weight};
+ghost use Rattle.configurations.specs.Holds.{holds, same, Nothing, Something, Foremost, Less, Takes, weight};
 
 use crate::set::{Configurations, InOrder};
 use crate::{Configuration, MEMORIES};
@@ -97,7 +97,7 @@ impl Configurations {
     }
 
     pub fn is_empty(&self) -> bool
-        ensures { Decides result (Nothing self.now) }
+        ensures { MatchBool result (Nothing self.now) (Something self.now) }
     {
         self.first().is_none()
     }

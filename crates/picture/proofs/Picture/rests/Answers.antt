@@ -1,7 +1,8 @@
 use Rattle.std.proofs.Common.{◌≡◌, ℕ, true, List, sym, ◌∙◌, subst}
-use Rattle.configurations.specs.Holds.{holds}
+use Rattle.std.specs.Prelude.{MatchBool}
+use Rattle.configurations.specs.Holds.{holds, Nothing, Something}
 use Rattle.picture.specs.Settling.{still, Waits}
-use Rattle.picture.proofs.Sweeps.{out, waits_on}
+use Rattle.picture.proofs.Sweeps.{none_waits, waits_on}
 use Rattle.picture.proofs.Picture.rests.Goals as goal
 
 pub loop-quorum-init : goal.loop-quorum-init
@@ -15,6 +16,7 @@ returns c =
     let stop = c.loop-quorum-test.false in
     let waits : (m s : ℕ) → holds left m s ≡ true → Waits c.args.quorum c.args.self.now left m s =
     subst (λ (xs : List ℕ). (m s : ℕ) → holds xs m s ≡ true → Waits c.args.quorum c.args.self.now xs m s) (sym (call.same stop)) (call.waits stop) in (
-      λ e m s. w.sound c.loop-quorum.invariant.1 m s (c.is_empty.ensures.0 e m s),
-      λ all. c.is_empty.ensures.1 (λ m s. out _ (waits_on c.args.self.now left (λ m s h. c.loop-quorum.invariant.0 m s (w.fewer m s h)) c.args.quorum waits (all m s))),
+      λ e m s. w.sound c.loop-quorum.invariant.1 m s (subst (λ b. MatchBool b (Nothing left) (Something left)) e c.is_empty.ensures m s),
+      λ all. none_waits left c.is_empty.result c.is_empty.ensures
+          (λ m s. waits_on c.args.self.now left (λ m s h. c.loop-quorum.invariant.0 m s (w.fewer m s h)) c.args.quorum waits (all m s)),
     )

@@ -1,2 +1,2 @@
-pub mod Counts
+pub mod Ways
 pub mod Siblings

@@ -1,7 +1,13 @@
+use environment::{MOST_ACTIONS, MOST_OBSERVATIONS};
+
 mod calls;
 
-// Which actions are barred at which observation: action a at observation o stands at o * 8 + a.
+const ACTIONS: usize = MOST_ACTIONS as usize;
+
+const OBSERVATIONS: usize = MOST_OBSERVATIONS as usize;
+
+// Which actions are barred at which observation: a row of marks for each observation.
 #[derive(Clone, Copy)]
 pub struct Bars {
-    barred: [bool; 128],
+    barred: [[bool; ACTIONS]; OBSERVATIONS],
 }

@@ -9,10 +9,8 @@ use controller::table::Table;
 fn first_move(bars: &Bars, table: &Table, observation: u8, from: u8) -> Option<Entry>
     ensures { MatchOption result (by_actions bars.now table.now.memories observation from (table.now.actions - from) ≡ []) (λ f. by_actions bars.now table.now.memories observation from (table.now.actions - from) ≡ f ∷ choices_after bars.now table.now.memories table.now.actions observation f) }
 {
-    match bars.first_free(observation, from, table.actions()) {
-        Some(action) => Some(Entry::Move { action, next: 0 }),
-        None => None,
-    }
+    let action = bars.first_free(observation, from, table.actions())?;
+    Some(Entry::Move { action, next: 0 })
 }
 
 // What an entry at the observation is filled with after what it holds; none where every choice has been made.
@@ -22,17 +20,10 @@ pub fn following(bars: &Bars, table: &Table, observation: u8, entry: Entry) -> O
     match entry {
         Entry::Blank => Some(Entry::Stop),
         Entry::Stop => first_move(bars, table, observation, 0),
-        Entry::Move { action, next } => {
-            if next < table.memories() - 1 {
-                Some(Entry::Move {
-                    action,
-                    next: next + 1,
-                })
-            } else if action < 255 {
-                first_move(bars, table, observation, action + 1)
-            } else {
-                None
-            }
-        }
+        Entry::Move { action, next } if next < table.memories() - 1 => Some(Entry::Move {
+            action,
+            next: next + 1,
+        }),
+        Entry::Move { action, .. } => first_move(bars, table, observation, action.checked_add(1)?),
     }
 }

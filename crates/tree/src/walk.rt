@@ -1,22 +1,15 @@
-ghost use Rattle.std.specs.Prelude.{◌≤◌};
-
+use arrayvec::ArrayVec;
+use controller::place::Place;
 use controller::table::Table;
 
 mod steps;
 
-// Where an entry stands: its memory and its observation.
-#[derive(Clone, Copy)]
-pub struct Place {
-    memory: u8,
-    observation: u8,
-}
+// A table has at most 64 entries, so that the trail is never longer.
+const MOST_ENTRIES: usize = 64;
 
-// A table of the tree, and the places that were filled to come to it, the oldest first. A table has at most 64 entries, so that the
-// trail is never longer.
-#[derive(Clone, Copy)]
+// A table of the tree, and the places that were filled to come to it, the oldest first.
+#[derive(Clone, Drop)]
 pub struct Walk {
     pub table: Table,
-    trail: [Place; 64],
-    depth: usize,
-    ghost deep: { depth ≤ 64 },
+    trail: ArrayVec<Place, MOST_ENTRIES>,
 }

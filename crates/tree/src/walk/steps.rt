@@ -1,10 +1,13 @@
+ghost use Rattle.std.specs.Prelude.{◌≡◌, ◌<◌, [], length, MatchOption};
 ghost use Rattle.controller.specs.Tables.{SameCounts};
-ghost use Rattle.tree.specs.Walks.{Back, Descended, Root};
+ghost use Rattle.tree.specs.Walks.{Ascended, Back, Descended, Root, last_place};
 
 use crate::bars::Bars;
 use crate::choices::following;
-use crate::walk::{Place, Walk};
+use crate::walk::Walk;
+use arrayvec::ArrayVec;
 use controller::entry::Entry;
+use controller::place::Place;
 use controller::table::Table;
 
 impl Walk {
@@ -14,28 +17,35 @@ impl Walk {
     {
         Walk {
             table: Table::blank(memories, actions, observations),
-            trail: [Place {
-                memory: 0,
-                observation: 0,
-            }; 64],
-            depth: 0,
+            trail: ArrayVec::new(),
         }
     }
 
     // To the first child, which fills the entry with stop. False, with nothing changed, where the trail is full.
-    pub fn descend(&mut self, memory: u8, observation: u8) -> bool
-        ensures { Descended memory observation self.old self.new result }
+    pub fn descend(&mut self, at: Place) -> bool
+        ensures { Descended at self.old self.new result }
     {
-        if self.depth >= 64 {
+        if self.trail.try_push(at).is_err() {
             return false;
         }
-        self.table.set(memory, observation, Entry::Stop);
-        self.trail[self.depth] = Place {
-            memory,
-            observation,
-        };
-        self.depth += 1;
+        self.table.set(at, Entry::Stop);
         true
+    }
+
+    // The place that was filled last; none at the root.
+    fn last(&self) -> Option<Place>
+        ensures { MatchOption result (self.now.trail.items ≡ []) (λ p. (0 < length self.now.trail.items) × (p ≡ last_place self.now)) }
+    {
+        self.trail.last().copied()
+    }
+
+    // To the parent: the place that was filled last is blank again. At the root nothing changes.
+    fn ascend(&mut self)
+        ensures { 0 < length self.old.trail.items → Ascended self.old self.new }
+    {
+        if let Some(at) = self.trail.pop() {
+            self.table.set(at, Entry::Blank);
+        }
     }
 
     // To the next table of the order that does not lie below this one. False, back at the root, where there is none.
@@ -43,22 +53,13 @@ impl Walk {
         ensures way { Back bars.now self.old self.new result }
         ensures counts { SameCounts self.old.table self.new.table }
     {
-        while self.depth > 0 {
-            let Place {
-                memory,
-                observation,
-            } = self.trail[self.depth - 1];
-            let entry = self.table.entry(memory, observation);
-            match following(bars, &self.table, observation, entry) {
-                Some(next) => {
-                    self.table.set(memory, observation, next);
-                    return true;
-                }
-                None => {
-                    self.table.set(memory, observation, Entry::Blank);
-                    self.depth -= 1;
-                }
+        while let Some(at) = self.last() {
+            let entry = self.table.entry(at);
+            if let Some(next) = following(bars, &self.table, at.observation, entry) {
+                self.table.set(at, next);
+                return true;
             }
+            self.ascend();
         }
         false
     }

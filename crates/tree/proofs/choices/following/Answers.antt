@@ -3,8 +3,8 @@ use Rattle.tree.specs.Choices.{choices_after}
 use Rattle.tree.proofs.Siblings.{next_memory}
 use Rattle.tree.proofs.choices.following.Goals as goal
 
-pub returns-then-next-memories : goal.returns-then-next-memories
-returns-then-next-memories c =
+pub returns-in-Move : goal.returns-in-Move
+returns-in-Move c =
     let t = c.args.table.now in
     let b = c.args.bars.now in
     ap (choices_after b t.memories t.actions c.args.observation) c.in-Move.is

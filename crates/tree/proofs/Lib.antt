@@ -1,2 +1,3 @@
-pub mod Ways
+pub mod Marks
 pub mod Siblings
+pub mod Ways

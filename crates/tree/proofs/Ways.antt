@@ -1,13 +1,13 @@
 -- The way back, step by step.
-use Rattle.std.proofs.Common.{Bool, ◌≡◌, refl, ap, ◌∙◌, sym, subst}
+use Rattle.std.proofs.Common.{Bool, ◌≡◌, refl, ◌∙◌}
 use Rattle.controller.specs.declared.entry.Entry.{Entry}
 use Rattle.controller.specs.declared.place.Place.{Place}
 use Rattle.controller.specs.declared.table.Table.{Table}
-use Rattle.controller.specs.Tables.{SameCounts, entry_at, Written}
+use Rattle.controller.specs.Tables.{SameCounts, entry_at}
 use Rattle.tree.specs.declared.bars.Bars.{Bars}
 use Rattle.tree.specs.declared.walk.Walk.{Walk}
 use Rattle.tree.specs.Choices.{choices_after}
-use Rattle.tree.specs.Walks.{Back, root, turn, up, choices_left, last_place, Refilled}
+use Rattle.tree.specs.Walks.{Back, root, turn, up, choices_left, last_place}
 
 pub counts_none : (t : Table) → SameCounts t t
 counts_none t = record { memories = refl; actions = refl; observations = refl }

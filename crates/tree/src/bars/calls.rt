@@ -15,6 +15,7 @@ fn bar(marks: &mut [bool; ACTIONS], action: u8)
 
 impl Bars {
     // Nothing is barred.
+    #[tactic(auto, using(crate::proofs::Marks::none_barred))]
     pub fn none() -> Bars
         ensures { (o a : ℕ) → barred_at result o a ≡ false }
     {

@@ -1,4 +1,4 @@
-use Rattle.std.proofs.Common.{◌≡◌, ◌∷◌, sym, refl, ap, ◌∙◌, subst}
+use Rattle.std.proofs.Common.{refl, ◌∙◌, subst}
 use Rattle.controller.specs.declared.place.Place.{Place}
 use Rattle.controller.specs.Tables.{Written}
 use Rattle.tree.specs.Walks.{root, turn, up}

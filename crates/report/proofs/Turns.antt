@@ -1,23 +1,17 @@
--- What one more piece adds to a text.
-use Rattle.std.proofs.Common.{◌≡◌, ℕ, ◌+◌, List, [], ◌++◌, refl, append_assoc, append-nil, add-one}
+-- What one more turn of a loop adds to the text written.
+use Rattle.std.proofs.Common.{ℕ, ◌+◌, List, refl, sym, add-one}
+use Rattle.std.proofs.Output.{has_written_append, has_written_of_eq, writes_in_calls_nil}
+use Rattle.std.specs.declared.fmt.Formatter.{Formatter}
+use Rattle.std.specs.Fmt.{HasWritten, IsPlainFormatter}
 use Rattle.report.specs.Text.{each}
 
-pub each_none : (f : ℕ → List ℕ) → each 0 f ≡ []
-unfolding each
-each_none f = refl
+module _ {W : Type 0} (took : W → List ℕ → W → Type 0) (f : ℕ → List ℕ) where
+  -- before the first turn nothing has been written
+  pub start : (w : Formatter W) → IsPlainFormatter w → HasWritten took w (each 0 f) w
+  unfolding each
+  start w plain = record { wrote = writes_in_calls_nil took w.writer; plain = plain }
 
-pub each_more : (f : ℕ → List ℕ) (n : ℕ) → each (n + 1) f ≡ each n f ++ f n
-unfolding each
-each_more f n = rw add-one
-
--- before the first turn nothing has been written
-pub start : (f : ℕ → List ℕ) (e : List ℕ) → e ≡ e ++ each 0 f
-start f e = simp (each_none, append-nil)
-
--- a turn that writes f n after the pieces before n
-pub turn : (f : ℕ → List ℕ) (n : ℕ) (e x y l : List ℕ) → x ≡ e ++ each n f → y ≡ x ++ l → l ≡ f n → y ≡ e ++ each (n + 1) f
-turn f n e x y l p q r = simp (q, p, r, each_more, append_assoc)
-
--- three pieces, one after another
-pub three : (e a b d x y z : List ℕ) → a ≡ e ++ x → b ≡ a ++ y → d ≡ b ++ z → d ≡ e ++ (x ++ (y ++ z))
-three e a b d x y z p q r = simp (r, q, p, append_assoc)
+  -- a turn that writes f n after the pieces before n
+  pub turn : (n : ℕ) (u v w : Formatter W) → HasWritten took u (each n f) v → HasWritten took v (f n) w → HasWritten took u (each (n + 1) f) w
+  unfolding each
+  turn n u v w before now = rw add-one (has_written_append took u (each n f) v (f n) w before now)

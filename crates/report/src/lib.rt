@@ -1,13 +1,15 @@
 // The report: the lines that the program prints for a verdict.
 #![tactic(auto)]
 
-ghost use Rattle.std.specs.Prelude.{◌≡◌, ◌++◌, IfOk, string_bytes, OnOk};
+ghost use Rattle.std.specs.Prelude.{◌≡◌, IfOk, Some, string_bytes};
 ghost use Rattle.report.specs.Text.{entry_line, row_lines, table_lines, worst_line, fault_line, report_text};
 
 use controller::entry::Entry;
+use controller::place::Place;
 use controller::table::Table;
 use faults::JobFault;
 use std::alloc::{AllocError, Global};
+use std::fmt;
 
 // What came of a job: how many tables were judged and what the search ended with, or why the job was refused.
 #[derive(Clone, Copy)]
@@ -29,89 +31,130 @@ pub enum Verdict {
     Refused(JobFault),
 }
 
-// Writes the line of one entry; a blank one has no line.
-fn write_entry(
-    text: &mut String,
-    memory: u8,
-    observation: u8,
+// The line of one entry; a blank one has no line.
+#[derive(Clone, Copy)]
+struct EntryLine {
+    at: Place,
     entry: Entry,
-) -> Result<(), AllocError>
-    ensures { OnOk result (string_bytes text.new ≡ string_bytes text.old ++ entry_line memory observation entry) }
-{
-    match entry {
-        Entry::Blank => Ok(()),
-        Entry::Stop => write!(text, "{memory} {observation} stop\n"),
-        Entry::Move { action, next } => write!(text, "{memory} {observation} {action} {next}\n"),
+}
+
+impl fmt::Display for EntryLine {
+    ghost output = { λ l. Some (entry_line l.at.memory l.at.observation l.entry) };
+
+    fn fmt<W: fmt::Write>(&self, f: &mut fmt::Formatter<W>) -> fmt::Result {
+        let Place {
+            memory,
+            observation,
+        } = self.at;
+        match self.entry {
+            Entry::Blank => Ok(()),
+            Entry::Stop => write!(f, "{memory} {observation} stop\n"),
+            Entry::Move { action, next } => write!(f, "{memory} {observation} {action} {next}\n"),
+        }
     }
 }
 
-// Writes the lines of a memory's entries, by observation.
-fn write_row(text: &mut String, table: &Table, memory: u8) -> Result<(), AllocError>
-    ensures { OnOk result (string_bytes text.new ≡ string_bytes text.old ++ row_lines table.now memory) }
-{
-    for observation in 0..table.observations() {
-        write_entry(text, memory, observation, table.entry(memory, observation))?;
-    }
-    Ok(())
+// The lines of a memory's entries, by observation.
+#[derive(Clone, Copy)]
+struct RowLines<'a> {
+    table: &'a Table,
+    memory: u8,
 }
 
-// Writes the lines of a table's entries, by memory and then observation.
-fn write_table(text: &mut String, table: &Table) -> Result<(), AllocError>
-    ensures { OnOk result (string_bytes text.new ≡ string_bytes text.old ++ table_lines table.now) }
-{
-    for memory in 0..table.memories() {
-        write_row(text, table, memory)?;
-    }
-    Ok(())
-}
+impl fmt::Display for RowLines<'_> {
+    ghost output = { λ l. Some (row_lines l.table.now l.memory) };
 
-// Writes the worst number of steps, or a dash where there is none.
-fn write_worst(text: &mut String, worst: Option<u32>) -> Result<(), AllocError>
-    ensures { OnOk result (string_bytes text.new ≡ string_bytes text.old ++ worst_line worst) }
-{
-    match worst {
-        Some(steps) => write!(text, "worst {steps}\n"),
-        None => write!(text, "worst -\n"),
+    fn fmt<W: fmt::Write>(&self, f: &mut fmt::Formatter<W>) -> fmt::Result {
+        for observation in 0..self.table.observations() {
+            let at = Place {
+                memory: self.memory,
+                observation,
+            };
+            let line = EntryLine {
+                at,
+                entry: self.table.entry(at),
+            };
+            write!(f, "{line}")?;
+        }
+        Ok(())
     }
 }
 
-// Writes a fault: its refusal, layer and byte, and the state and the action where it lies in a chain.
-fn write_fault(text: &mut String, fault: JobFault) -> Result<(), AllocError>
-    ensures { OnOk result (string_bytes text.new ≡ string_bytes text.old ++ fault_line fault) }
-{
-    let refusal = fault.refusal().number();
-    let layer = fault.layer();
-    let byte = fault.byte();
-    match fault.head() {
-        Some(head) => {
+// The lines of a table's entries, by memory and then observation.
+#[derive(Clone, Copy)]
+struct TableLines<'a>(&'a Table);
+
+impl fmt::Display for TableLines<'_> {
+    ghost output = { λ l. Some (table_lines l.0.now) };
+
+    fn fmt<W: fmt::Write>(&self, f: &mut fmt::Formatter<W>) -> fmt::Result {
+        let table = self.0;
+        for memory in 0..table.memories() {
+            let row = RowLines { table, memory };
+            write!(f, "{row}")?;
+        }
+        Ok(())
+    }
+}
+
+// The worst number of steps, or a dash where there is none.
+#[derive(Clone, Copy)]
+struct WorstLine(Option<u32>);
+
+impl fmt::Display for WorstLine {
+    ghost output = { λ l. Some (worst_line l.0) };
+
+    fn fmt<W: fmt::Write>(&self, f: &mut fmt::Formatter<W>) -> fmt::Result {
+        match self.0 {
+            Some(steps) => write!(f, "worst {steps}\n"),
+            None => write!(f, "worst -\n"),
+        }
+    }
+}
+
+// The line of a fault: its refusal, layer and byte, and the state and the action where it lies in a chain.
+#[derive(Clone, Copy)]
+struct FaultLine(JobFault);
+
+impl fmt::Display for FaultLine {
+    ghost output = { λ l. Some (fault_line l.0) };
+
+    fn fmt<W: fmt::Write>(&self, f: &mut fmt::Formatter<W>) -> fmt::Result {
+        let fault = self.0;
+        let refusal = fault.refusal().number();
+        let layer = fault.layer();
+        let byte = fault.byte();
+        write!(f, "refused {refusal} layer {layer} byte {byte}")?;
+        if let Some(head) = fault.head() {
             let state = head.state;
             let action = head.action;
-            write!(
-                text,
-                "refused {refusal} layer {layer} byte {byte} state {state} action {action}\n"
-            )
+            write!(f, " state {state} action {action}")?;
         }
-        None => write!(text, "refused {refusal} layer {layer} byte {byte}\n"),
+        write!(f, "\n")
     }
 }
 
-// Writes the whole text of a verdict.
-fn write_verdict(text: &mut String, verdict: &Verdict) -> Result<(), AllocError>
-    ensures { OnOk result (string_bytes text.new ≡ string_bytes text.old ++ report_text verdict.now) }
-{
-    match verdict {
-        Verdict::Found {
-            judged,
-            table,
-            worst,
-        } => {
-            write!(text, "found {judged}\n")?;
-            write_table(text, table)?;
-            write_worst(text, *worst)
+impl fmt::Display for Verdict {
+    ghost output = { λ v. Some (report_text v) };
+
+    fn fmt<W: fmt::Write>(&self, f: &mut fmt::Formatter<W>) -> fmt::Result {
+        match self {
+            Verdict::Found {
+                judged,
+                table,
+                worst,
+            } => {
+                let entries = TableLines(table);
+                let worst = WorstLine(*worst);
+                write!(f, "found {judged}\n{entries}{worst}")
+            }
+            Verdict::Exhausted { judged } => write!(f, "none {judged}\n"),
+            Verdict::Open { judged } => write!(f, "open {judged}\n"),
+            Verdict::Refused(fault) => {
+                let fault = FaultLine(*fault);
+                write!(f, "{fault}")
+            }
         }
-        Verdict::Exhausted { judged } => write!(text, "none {judged}\n"),
-        Verdict::Open { judged } => write!(text, "open {judged}\n"),
-        Verdict::Refused(fault) => write_fault(text, *fault),
     }
 }
 
@@ -119,9 +162,7 @@ fn write_verdict(text: &mut String, verdict: &Verdict) -> Result<(), AllocError>
 pub fn report(heap: Global, verdict: &Verdict) -> Result<String, AllocError>
     ensures { IfOk result (λ s. string_bytes s ≡ report_text verdict.now) }
 {
-    let mut text = String::new(heap);
-    write_verdict(&mut text, verdict)?;
-    Ok(text)
+    verdict.to_string(heap)
 }
 
 #[cfg(test)]
@@ -131,14 +172,21 @@ mod tests {
     use refusals::Refusal;
     use std::test::Fail;
 
+    fn place(memory: u8, observation: u8) -> Place {
+        Place {
+            memory,
+            observation,
+        }
+    }
+
     #[test]
     fn a_found_controller_has_its_entries_by_memory_and_observation(
         rt: HostRuntime,
     ) -> Result<(), Fail> {
         let mut table = Table::blank(2, 2, 3);
-        table.set(1, 0, Entry::Stop);
-        table.set(0, 2, Entry::Move { action: 0, next: 1 });
-        table.set(0, 0, Entry::Move { action: 1, next: 0 });
+        table.set(place(1, 0), Entry::Stop);
+        table.set(place(0, 2), Entry::Move { action: 0, next: 1 });
+        table.set(place(0, 0), Entry::Move { action: 1, next: 0 });
         let verdict = Verdict::Found {
             judged: 9,
             table,

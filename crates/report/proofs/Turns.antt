@@ -1,6 +1,6 @@
 -- What one more turn of a loop adds to the text written.
-use Rattle.std.proofs.Common.{ℕ, ◌+◌, List, refl, sym, add-one}
-use Rattle.std.proofs.Output.{has_written_append, has_written_of_eq, writes_in_calls_nil}
+use Rattle.std.proofs.Common.{ℕ, ◌+◌, List, add-one}
+use Rattle.std.proofs.Output.{has_written_append, writes_in_calls_nil}
 use Rattle.std.specs.declared.fmt.Formatter.{Formatter}
 use Rattle.std.specs.Fmt.{HasWritten, IsPlainFormatter}
 use Rattle.report.specs.Text.{each}

@@ -48,8 +48,8 @@ impl fmt::Display for EntryLine {
         } = self.at;
         match self.entry {
             Entry::Blank => Ok(()),
-            Entry::Stop => write!(f, "{memory} {observation} stop\n"),
-            Entry::Move { action, next } => write!(f, "{memory} {observation} {action} {next}\n"),
+            Entry::Stop => writeln!(f, "{memory} {observation} stop"),
+            Entry::Move { action, next } => writeln!(f, "{memory} {observation} {action} {next}"),
         }
     }
 }
@@ -106,8 +106,8 @@ impl fmt::Display for WorstLine {
 
     fn fmt<W: fmt::Write>(&self, f: &mut fmt::Formatter<W>) -> fmt::Result {
         match self.0 {
-            Some(steps) => write!(f, "worst {steps}\n"),
-            None => write!(f, "worst -\n"),
+            Some(steps) => writeln!(f, "worst {steps}"),
+            None => writeln!(f, "worst -"),
         }
     }
 }
@@ -130,7 +130,7 @@ impl fmt::Display for FaultLine {
             let action = head.action;
             write!(f, " state {state} action {action}")?;
         }
-        write!(f, "\n")
+        writeln!(f)
     }
 }
 
@@ -148,8 +148,8 @@ impl fmt::Display for Verdict {
                 let worst = WorstLine(*worst);
                 write!(f, "found {judged}\n{entries}{worst}")
             }
-            Verdict::Exhausted { judged } => write!(f, "none {judged}\n"),
-            Verdict::Open { judged } => write!(f, "open {judged}\n"),
+            Verdict::Exhausted { judged } => writeln!(f, "none {judged}"),
+            Verdict::Open { judged } => writeln!(f, "open {judged}"),
             Verdict::Refused(fault) => {
                 let fault = FaultLine(*fault);
                 write!(f, "{fault}")

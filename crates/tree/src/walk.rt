@@ -1,13 +1,11 @@
 use arrayvec::ArrayVec;
 use controller::place::Place;
-use controller::table::Table;
+use controller::table::{MOST_ENTRIES, Table};
 
 mod steps;
 
-// A table has at most 64 entries, so that the trail is never longer.
-const MOST_ENTRIES: usize = 64;
-
-// A table of the tree, and the places that were filled to come to it, the oldest first.
+// A table of the tree, and the places that were filled to come to it, the oldest first. Each place is filled once, so that the trail is
+// never longer than a table has entries.
 #[derive(Clone, Drop)]
 pub struct Walk {
     pub table: Table,

@@ -4,7 +4,7 @@ ghost use Rattle.controller.specs.declared.entry.Entry.TheVariants.{Blank as bla
 
 use crate::entry::Entry;
 use crate::place::Place;
-use crate::table::{MOST_MEMORIES, Table};
+use crate::table::{MOST_ENTRIES, MOST_MEMORIES, Table};
 use environment::{MOST_ACTIONS, MOST_OBSERVATIONS};
 
 impl Table {
@@ -19,7 +19,7 @@ impl Table {
             memories: memories.min(MOST_MEMORIES).max(1),
             actions: actions.min(MOST_ACTIONS),
             observations: observations.min(MOST_OBSERVATIONS),
-            entries: [Entry::Blank; 64],
+            entries: [Entry::Blank; MOST_ENTRIES],
         }
     }
 

@@ -1,2 +1,3 @@
 pub mod Shuttles
+pub mod Spots
 pub mod Steps

@@ -45,6 +45,10 @@ line n = record {
 abbrev pub is_row : ℕ → Bool
 is_row n = nat_le 2 n && nat_le n 32
 
+-- State s is one of a shuttle of n places.
+abbrev pub is_state : ℕ → ℕ → Bool
+is_state n s = is_row n && nat_lt s (2 * n)
+
 abbrev pub shuttle : ℕ → System
 shuttle n = cond (is_row n) (line n) empty
 

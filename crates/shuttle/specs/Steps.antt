@@ -10,7 +10,7 @@ use Rattle.sets.proofs.Bits.{has_none}
 use Rattle.sets.proofs.Chosen.{chosen-lt, has_chosen, none_chosen, one_chosen}
 use Rattle.environment.specs.System.{Sound, empty}
 use Rattle.environment.proofs.Systems.{empty_sound}
-use Rattle.shuttle.specs.Shuttles.{place_of, bit_of, is_far_end, is_step, arrival_at, comes_to, sight_of, line, is_row, shuttle, KeepsBit}
+use Rattle.shuttle.specs.Shuttles.{place_of, bit_of, is_far_end, is_step, arrival_at, comes_to, sight_of, line, is_row, is_state, shuttle, KeepsBit}
 
 -- an action leads to one place at most
 one_step : (a p q r : ℕ) → is_step a p q ≡ true → is_step a p r ≡ true → q ≡ r
@@ -29,9 +29,16 @@ place_then n p f h = let b = bit_then n p f h in omega arith
 arrival-lt : (n p f : ℕ) → f < 2 → p < n → arrival_at n p f < 2 * n
 arrival-lt n p f h l = let b = bit_then n p f h in omega arith
 
--- no state of a shuttle that runs is past what a set can hold
-pub arrival_few : (n p f r : ℕ) → is_row n ≡ true → f < 2 → p < n → r ≡ arrival_at n p f → r < 64
-arrival_few n p f r row h l e = let k = leb-true n 32 (and_parts (nat_le 2 n) (nat_le n 32) row).1 in let q = arrival-lt n p f h l in omega arith
+-- no state of a shuttle is past what a set can hold
+pub arrival_few : (n s p : ℕ) → is_state n s ≡ true → p < n → arrival_at n p (bit_of s) < 64
+arrival_few n s p here l =
+    let h = and_parts (is_row n) (nat_lt s (2 * n)) here in
+    let k = leb-true n 32 (and_parts (nat_le 2 n) (nat_le n 32) h.0).1 in
+    omega (arith, arrival-lt n p (bit_of s) (bit-lt s) l)
+
+-- the bit as a truth value
+pub bit_back : (s : ℕ) → cond (bit_of s == 1) 1 0 ≡ bit_of s
+bit_back s = let h = bit-lt s in grind (arith, nat_tests)
 
 module _ (n a s : ℕ) where
   pub moved : (q : ℕ) → q < n → is_step a (place_of s) q ≡ true → set_of (2 * n) (comes_to n a s) ≡ only (arrival_at n q (bit_of s))
@@ -53,9 +60,9 @@ module _ (n a s : ℕ) where
   pub unmoved : ((q : ℕ) → q < n → is_step a (place_of s) q ≡ false) → set_of (2 * n) (comes_to n a s) ≡ 0
   unmoved none = none_chosen (2 * n) (comes_to n a s) (λ t k. and_left _ _ (none (place_of t) (omega arith)))
 
-  -- the outcomes of a shuttle that runs, from one of its states
-  pub leads : is_row n ≡ true → s < 2 * n → (shuttle n).outcomes s a ≡ set_of (2 * n) (comes_to n a s)
-  leads row l = rw row (cond-true (nat_lt s (2 * n)) _ 0 (lt-ltb s (2 * n) l))
+  -- the outcomes from a state of a shuttle
+  pub leads : is_state n s ≡ true → (shuttle n).outcomes s a ≡ set_of (2 * n) (comes_to n a s)
+  leads here = let h = and_parts (is_row n) (nat_lt s (2 * n)) here in rw h.0 (cond-true (nat_lt s (2 * n)) _ 0 h.1)
 
 sight-lt : (n p : ℕ) → sight_of n p < 3
 sight-lt n p = cond_both (p == 0) 0 _ (λ x. x < 3) (λ _. lit< tt) (λ _. cond_both (is_far_end n p) 2 1 (λ x. x < 3) (λ _. lit< tt) (λ _. lit< tt))

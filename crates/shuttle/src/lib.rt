@@ -2,25 +2,28 @@
 // far end; it sees where it is, and never whether it has been there.
 #![tactic(auto)]
 
-ghost use Rattle.std.specs.Prelude.{◌≡◌, ℕ, ◌<◌, true, false, MatchOption};
+ghost use Rattle.std.specs.Prelude.{◌≡◌, ℕ, ◌<◌, true, false, cond, ◌||◌, ◌&&◌, ◌==◌, nat_lt, MatchOption};
 ghost use Rattle.sets.specs.Mask.{only as single};
-ghost use Rattle.shuttle.specs.Shuttles.{shuttle as system, is_row, is_step, arrival_at, KeepsBit};
+ghost use Rattle.shuttle.specs.Shuttles.{shuttle as system, is_row, is_step, is_state, is_far_end, arrival_at, sight_of, KeepsBit};
+ghost use Rattle.shuttle.specs.Spots.{IsSpot};
 ghost use Rattle.shuttle.specs.Steps.{shuttle_sound};
 ghost use Rattle.std.proofs.Common.{rules};
 
+mod direction;
+mod spot;
+
+use crate::direction::Direction;
+use crate::spot::Spot;
 use environment::{Alphabet, Environment};
-use sets::only;
+use sets::StateSet;
+use std::ops::RangeBounds;
 
 const FEWEST_PLACES: u8 = 2;
 
 const MOST_PLACES: u8 = 32;
 
-const LEFT: u8 = 0;
-
-const RIGHT: u8 = 1;
-
 // A shuttle along a row of places. State 2p + f is place p with a bit f, which is set on arrival at the far end.
-#[derive(Clone, Copy)]
+#[derive(Clone, Copy, Debug, PartialEq, Eq)]
 pub struct Shuttle {
     places: u8,
 }
@@ -37,7 +40,20 @@ impl Shuttle {
     fn runs(&self) -> bool
         ensures { result ≡ is_row self.now.places }
     {
-        self.places >= FEWEST_PLACES && self.places <= MOST_PLACES
+        (FEWEST_PLACES..=MOST_PLACES).contains(&self.places)
+    }
+
+    // Where a state is, if it is one of the shuttle's.
+    fn spot(&self, state: u8) -> Option<Spot>
+        ensures { MatchOption result (is_state self.now.places state ≡ false) (λ spot. (is_state self.now.places state ≡ true) × IsSpot state spot) }
+    {
+        (state < self.states()).then_some(Spot::from(state))
+    }
+
+    fn is_far_end(&self, place: u8) -> bool
+        ensures { result ≡ is_far_end self.now.places place }
+    {
+        self.places.checked_sub(1) == Some(place)
     }
 
     // The place that an action leads to, if it leads to one: none leads off an end.
@@ -45,38 +61,43 @@ impl Shuttle {
         requires { place < self.now.places }
         ensures { MatchOption result ((q : ℕ) → q < self.now.places → is_step action place q ≡ false) (λ q. (q < self.now.places) × (is_step action place q ≡ true)) }
     {
-        if action == LEFT && place > 0 {
-            Some(place - 1)
-        } else if action == RIGHT && place < self.places - 1 {
-            Some(place + 1)
-        } else {
-            None
+        match Direction::of(action)? {
+            Direction::Left => place.checked_sub(1),
+            Direction::Right if place < self.places - 1 => Some(place + 1),
+            Direction::Right => None,
         }
     }
 
     // The state in which it comes to a place, with the bit that it had before.
-    fn arrival(&self, place: u8, bit: u8) -> u8
-        requires place { place < 32 }
-        requires bit { bit < 2 }
-        ensures { result ≡ arrival_at self.now.places place bit }
+    fn arrival(&self, place: u8, bit: bool) -> u8
+        requires { place < 128 }
+        ensures { result ≡ arrival_at self.now.places place (cond bit 1 0) }
     {
-        if place + 1 == self.places {
-            2 * place + 1
-        } else {
-            2 * place + bit
-        }
+        u8::from(Spot {
+            place,
+            bit: bit || self.is_far_end(place),
+        })
     }
 
     // The one state that an action leads to from a state, if it leads to any.
     fn destination(&self, state: u8, action: u8) -> Option<u8>
         ensures { MatchOption result ((system self.now.places).outcomes state action ≡ 0) (λ t. (t < 64) × ((system self.now.places).outcomes state action ≡ single t)) }
     {
-        if !self.runs() || state >= 2 * self.places {
-            return None;
-        }
-        match self.neighbour(state / 2, action) {
-            Some(place) => Some(self.arrival(place, state % 2)),
-            None => None,
+        let spot = self.spot(state)?;
+        let place = self.neighbour(spot.place, action)?;
+        Some(self.arrival(place, spot.bit))
+    }
+
+    // What it sees at a place.
+    fn sight(&self, place: u8) -> u8
+        ensures { result ≡ sight_of self.now.places place }
+    {
+        if place == 0 {
+            0
+        } else if self.is_far_end(place) {
+            2
+        } else {
+            1
         }
     }
 }
@@ -108,33 +129,29 @@ impl Environment for Shuttle {
         if self.runs() { 2 * self.places } else { 0 }
     }
 
-    fn initial(&self) -> u64 {
-        if self.runs() { only(0) } else { 0 }
+    fn initial(&self) -> StateSet {
+        if self.runs() {
+            StateSet::only(0)
+        } else {
+            StateSet::EMPTY
+        }
     }
 
-    fn goal(&self) -> u64 {
-        if self.runs() { only(1) } else { 0 }
+    fn goal(&self) -> StateSet {
+        if self.runs() {
+            StateSet::only(1)
+        } else {
+            StateSet::EMPTY
+        }
     }
 
     fn observation(&self, state: u8) -> u8 {
-        if !self.runs() || state >= 2 * self.places {
-            return 0;
-        }
-        let place = state / 2;
-        if place == 0 {
-            0
-        } else if place + 1 == self.places {
-            2
-        } else {
-            1
-        }
+        self.spot(state).map_or(0, |spot| self.sight(spot.place))
     }
 
-    fn outcomes(&self, state: u8, action: u8) -> u64 {
-        match self.destination(state, action) {
-            Some(target) => only(target),
-            None => 0,
-        }
+    fn outcomes(&self, state: u8, action: u8) -> StateSet {
+        self.destination(state, action)
+            .map_or(StateSet::EMPTY, StateSet::only)
     }
 }
 

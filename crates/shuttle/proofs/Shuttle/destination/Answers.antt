@@ -1,23 +1,23 @@
-use Rattle.std.proofs.Common.{◌≡◌, true, sym, ap, ◌∙◌, arith}
-use Rattle.sets.specs.Mask.{only}
-use Rattle.shuttle.specs.Shuttles.{bit_of, is_row}
-use Rattle.shuttle.specs.Steps.{moved, unmoved, leads, arrival_few}
+use Rattle.std.proofs.Common.{◌≡◌, ap, ◌∙◌}
+use Rattle.shuttle.specs.Shuttles.{bit_of, arrival_at}
+use Rattle.shuttle.specs.Steps.{moved, unmoved, leads, arrival_few, bit_back}
 use Rattle.shuttle.proofs.Shuttle.destination.Goals as goal
 
-pub returns-in-Some : goal.returns-in-Some
-returns-in-Some c =
+pub returns-in_err-place : goal.returns-in_err-place
+returns-in_err-place c =
     let n = c.args.self.now.places in
     let s = c.args.state in
     let a = c.args.action in
-    let row : is_row n ≡ true = sym c.if-not-runs.ensures in
-    let step = c.in-Some.ensures in (
-      arrival_few n c.in-Some.place (bit_of s) c.arrival.result row (omega arith) step.0 c.arrival.ensures,
-      leads n a s row c.if-state-self.false ∙ moved n a s c.in-Some.place step.0 step.1 ∙ ap only (sym c.arrival.ensures),
-    )
+    let at = c.in_ok-spot.ensures in
+    rw c.from_residual-in_err-place.ensures (leads n a s at.0 ∙ unmoved n a s (rw at.1.place_is at c.in_err-place.ensures))
 
-pub returns-in-None : goal.returns-in-None
-returns-in-None c =
+pub returns : goal.returns
+returns c =
     let n = c.args.self.now.places in
     let s = c.args.state in
     let a = c.args.action in
-    leads n a s (sym c.if-not-runs.ensures) c.if-state-self.false ∙ unmoved n a s c.in-None.ensures
+    let at = c.in_ok-spot.ensures in
+    let step = rw at.1.place_is at c.in_ok-place.ensures in
+    let p = c.in_ok-place.place in
+    let to : c.arrival.result ≡ arrival_at n p (bit_of s) = c.arrival.ensures ∙ ap (arrival_at n p) (rw at.1.bit_is (bit_back s)) in
+    rw to (arrival_few n s p at.0 step.0, leads n a s at.0 ∙ moved n a s p step.0 step.1)

@@ -2,7 +2,7 @@
 // far end; it sees where it is, and never whether it has been there.
 #![tactic(auto)]
 
-ghost use Rattle.std.specs.Prelude.{◌≡◌, ℕ, ◌<◌, true, false, cond, ◌||◌, ◌&&◌, ◌==◌, nat_lt, MatchOption};
+ghost use Rattle.std.specs.Prelude.{◌≡◌, ℕ, ◌<◌, true, false, if◌then◌else◌, cond, ◌||◌, ◌&&◌, ◌==◌, nat_lt, MatchOption};
 ghost use Rattle.sets.specs.Mask.{only as single};
 ghost use Rattle.shuttle.specs.Shuttles.{shuttle as system, is_row, is_step, is_state, is_far_end, arrival_at, sight_of, KeepsBit};
 ghost use Rattle.shuttle.specs.Spots.{IsSpot};
@@ -48,6 +48,17 @@ impl Shuttle {
         ensures { MatchOption result (is_state self.now.places state ≡ false) (λ spot. (is_state self.now.places state ≡ true) × IsSpot state spot) }
     {
         (state < self.states()).then_some(Spot::from(state))
+    }
+
+    // The set of a state, if it is one of the shuttle's.
+    fn only(&self, state: u8) -> StateSet
+        ensures { result ≡ (if is_state self.now.places state then single state else 0) }
+    {
+        if state < self.states() {
+            StateSet::only(state)
+        } else {
+            StateSet::EMPTY
+        }
     }
 
     fn is_far_end(&self, place: u8) -> bool
@@ -130,19 +141,11 @@ impl Environment for Shuttle {
     }
 
     fn initial(&self) -> StateSet {
-        if self.runs() {
-            StateSet::only(0)
-        } else {
-            StateSet::EMPTY
-        }
+        self.only(0)
     }
 
     fn goal(&self) -> StateSet {
-        if self.runs() {
-            StateSet::only(1)
-        } else {
-            StateSet::EMPTY
-        }
+        self.only(1)
     }
 
     fn observation(&self, state: u8) -> u8 {

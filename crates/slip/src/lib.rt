@@ -8,10 +8,10 @@ ghost use Rattle.slip.specs.Slipped.{slip_sound};
 ghost use Rattle.std.proofs.Common.{rules};
 
 use environment::{Alphabet, Environment};
-use sets::with;
+use sets::StateSet;
 
 // The environment below it, with an actuator that may slip: each legal action may also leave the state as it is.
-#[derive(Clone, Copy, Drop)]
+#[derive(Clone, Copy, Debug, Drop, PartialEq, Eq)]
 pub struct Slip<E> {
     below: E,
 }
@@ -22,18 +22,6 @@ impl<E: Environment> Slip<E> {
         ensures { result.below ≡ below }
     {
         Slip { below }
-    }
-
-    // The outcomes in the slip, where `outcomes` are those below.
-    fn slipped(&self, state: u8, action: u8, outcomes: u64) -> u64
-        requires { outcomes ≡ (E.Environment.meaning self.now.below).outcomes state action }
-        ensures { result ≡ (slipping (E.Environment.meaning self.now.below)).outcomes state action }
-    {
-        if outcomes == 0 {
-            0
-        } else {
-            with(outcomes, state)
-        }
     }
 }
 
@@ -64,11 +52,11 @@ impl<E: Environment> Environment for Slip<E> {
         self.below.states()
     }
 
-    fn initial(&self) -> u64 {
+    fn initial(&self) -> StateSet {
         self.below.initial()
     }
 
-    fn goal(&self) -> u64 {
+    fn goal(&self) -> StateSet {
         self.below.goal()
     }
 
@@ -76,9 +64,13 @@ impl<E: Environment> Environment for Slip<E> {
         self.below.observation(state)
     }
 
-    fn outcomes(&self, state: u8, action: u8) -> u64 {
+    fn outcomes(&self, state: u8, action: u8) -> StateSet {
         let outcomes = self.below.outcomes(state, action);
-        self.slipped(state, action, outcomes)
+        if outcomes.is_empty() {
+            outcomes
+        } else {
+            outcomes.with(state)
+        }
     }
 }
 

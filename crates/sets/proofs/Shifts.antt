@@ -1,10 +1,13 @@
 -- Laws of shifted sets: every state of a set moved down or up, and rows of states, each as wide as the one before.
-use Rattle.std.proofs.Common.{◌≡◌, ℕ, suc, ◌+◌, ◌-◌, ◌*◌, ◌/◌, ◌%◌, ◌^◌, ◌<◌, ◌≤◌, false, not, ◌&&◌, eqb, ltb, sym, ap, ◌∙◌, subst, inl, inr, mul_assoc, suc-mul, pow-suc, arith}
+use Rattle.std.proofs.Common.{◌≡◌, ℕ, suc, ◌+◌, ◌-◌, ◌*◌, ◌/◌, ◌%◌, ◌^◌, ◌<◌, ◌≤◌, Bool, true, false, not, ◌&&◌, eqb, ltb, leb, Option, None, Some, refl, sym, ap, ◌∙◌, subst, inl, inr, mul_assoc, suc-mul, pow-suc, arith}
 use native.Mathlib.Nat.{sub-zero, mul-mod_left}
+use lib.Bits.{and_mask}
+use Rattle.std.specs.Option.{SomeIff, unwrap_or}
+use Rattle.std.proofs.Math.Bool.{and_comm}
 use Rattle.std.proofs.lemmas.Nat.{pow-add, pow_pos, shl-shr, shr-shr, shl_below, div-add-mod', mod_below, mul-le}
-use Rattle.std.proofs.lemmas.Bool.{cases_lt, cases_order, eq-eqb, ne_eqb, le-ltb, lt-ltb, and_left}
+use Rattle.std.proofs.lemmas.Bool.{cases_lt, cases_order, eq-eqb, ne_eqb, le-ltb, lt-ltb, le-leb, lt-leb, and_left, and_right}
 use Rattle.sets.specs.Mask.{has}
-use Rattle.sets.proofs.Bits.{has_above, has_none, has-not}
+use Rattle.sets.proofs.Bits.{has_above, has_none, has-and, has-not}
 
 -- all states below k
 pub has_all : (k t : ℕ) → has (2 ^ k - 1) t ≡ ltb t k
@@ -31,6 +34,34 @@ has_under y k t l =
     ∙ sym (mul_assoc y (2 ^ (k - suc t) * 2) (2 ^ t)) ∙ ap (λ (n : ℕ). n * 2 ^ t) (sym (mul_assoc y (2 ^ (k - suc t)) 2)) in
     ap (λ (n : ℕ). eqb (n / 2 ^ t % 2) 1) split ∙ ap (λ (n : ℕ). eqb (n % 2) 1) (shl-shr (y * 2 ^ (k - suc t) * 2) t)
     ∙ ap (λ (n : ℕ). eqb n 1) (mul-mod_left (y * 2 ^ (k - suc t)) 2)
+
+-- the states below n alone, as a remainder leaves them
+pub has_cut : (x n t : ℕ) → has (x % 2 ^ n) t ≡ (ltb t n && has x t)
+has_cut x n t =
+    ap (λ (y : ℕ). has y t) (sym (and_mask x n)) ∙ has-and x (2 ^ n - 1) t ∙ ap (λ b. has x t && b) (has_all n t) ∙ and_comm (has x t) (ltb t n)
+
+-- what is in a set that is moved up by k states, of which those past 63 are gone
+pub has_moved : (x k t : ℕ) → has ((x * 2 ^ k) % 2 ^ 64) t ≡ (ltb t 64 && leb k t && has x (t - k))
+has_moved x k t = has_cut (x * 2 ^ k) 64 t ∙ elim (cases_lt t k) [
+  | inl l ↦ rw (has_under x k t l, lt-leb k t l) (gone (ltb t 64) (has x (t - k)))
+  | inr g ↦ let e : k + (t - k) ≡ t = omega arith in rw (le-leb k t g, ap (has (x * 2 ^ k)) (sym e) ∙ has_up x k (t - k)) (kept (ltb t 64) (has x (t - k)))
+]
+  where
+    gone : (b c : Bool) → (b && false) ≡ (b && false && c)
+    gone true c = refl
+    gone false c = refl
+
+    kept : (b c : Bool) → (b && c) ≡ (b && true && c)
+    kept true c = refl
+    kept false c = refl
+
+-- the same, as `checked_shl` makes it
+pub has_shl : (o : Option ℕ) (x k t : ℕ) → SomeIff o (k < 64) ((x * 2 ^ k) % 2 ^ 64) → has (unwrap_or o 0) t ≡ (ltb t 64 && leb k t && has x (t - k))
+has_shl None x k t far = has_none t ∙ elim (cases_lt t 64) [
+  | inl l ↦ rw (lt-leb k t (omega arith)) (sym (and_left (ltb t 64 && false) _ (and_right (ltb t 64) false refl)))
+  | inr g ↦ rw (le-ltb t 64 g) refl
+]
+has_shl (Some y) x k t is = ap (λ (z : ℕ). has z t) is.1 ∙ has_moved x k t
 
 -- A set of states below w, moved up by r rows of w states: state t lies in row t / w, at the place t % w.
 pub has_row : (y w r t : ℕ) → 0 < w → y < 2 ^ w → has (y * 2 ^ (r * w)) t ≡ (eqb r (t / w) && has y (t % w))

@@ -1,7 +1,7 @@
 // Sets of states, as 64-bit masks: bit t stands for state t.
 #![tactic(auto)]
 
-ghost use Rattle.std.specs.Prelude.{◌≡◌, ℕ, ◌^◌, ◌<◌, min, not, ◌&&◌, ◌||◌, if◌then◌else◌, true, Decides, MatchOption, ◌==◌, nat_lt};
+ghost use Rattle.std.specs.Prelude.{◌≡◌, ℕ, ◌^◌, ◌<◌, min, not, ◌&&◌, ◌||◌, if◌then◌else◌, true, Decides, MatchOption, ◌==◌, ◌-◌, nat_le, nat_lt};
 ghost use Rattle.sets.specs.Laws.{SetLaws};
 ghost use Rattle.sets.specs.Mask.{has, only as single, Smallest};
 
@@ -140,6 +140,15 @@ impl StateSet {
     {
         StateSet {
             mask: self.mask & other.mask,
+        }
+    }
+
+    // The set with each of its states moved up by so many; those that come past 63 are gone.
+    pub fn moved_up(self, by: u8) -> StateSet
+        ensures { (t : ℕ) → has result t ≡ (nat_lt t 64 && nat_le by t && has self (t - by)) }
+    {
+        StateSet {
+            mask: self.mask.checked_shl(u32::from(by)).unwrap_or(0),
         }
     }
 

@@ -1,7 +1,8 @@
 -- How a pair is numbered by the counts of its parts, which it keeps, so that it need not ask for them at every question. A pair that is
 -- made has the counts that its parts have, and is then what `Pairs` says; the definitions here also say what any other counts would
 -- come to, so that every value of the type has a meaning.
-use Rattle.std.specs.Prelude.{◌≡◌, ℕ, ◌+◌, ◌-◌, ◌*◌, ◌/◌, ◌%◌, ◌<◌, ◌≤◌, Bool, cond, not, ◌&&◌, Some, None, Option, ◌==◌, nat_le, nat_lt}
+use Rattle.std.specs.Prelude.{◌≡◌, ℕ, ◌+◌, ◌-◌, ◌*◌, ◌/◌, ◌%◌, Bool, cond, not, ◌&&◌, Some, None, Option, ◌==◌, nat_le, nat_lt}
+use Rattle.std.proofs.Common.{zero-le}
 use Rattle.sets.specs.Mask.{only}
 use Rattle.environment.specs.System.{System}
 use Rattle.pair.specs.declared.shape.Counts.{Counts}
@@ -10,8 +11,11 @@ use Rattle.pair.specs.declared.shape.Mover.{Mover}
 use Rattle.pair.specs.declared.shape.Mover.TheVariants.{First, Second}
 use Rattle.pair.specs.Pairs.{product}
 
-abbrev pub counts_of : System → Counts
-counts_of x = record { actions = x.actions; observations = x.observations; states = x.states }
+-- The counts are those of the system.
+pub record AreCounts (x : System) (c : Counts) : Type 0 where
+  pub actions_are : c.actions ≡ x.actions
+  pub observations_are : c.observations ≡ x.observations
+  pub states_are : c.states ≡ x.states
 
 -- The parts of a state.
 abbrev pub parts_of : Counts → Counts → ℕ → Option Parts
@@ -50,13 +54,6 @@ joined c d x y = record {
   outcomes = λ s a. led_from c d x y (mover_of c d a) (parts_of c d s);
 }
 
--- Counts of an environment: they keep its limits, and where there is a state, there is an observation.
-pub record Small (c : Counts) : Type 0 where
-  pub few_actions : c.actions ≤ 8
-  pub few_observations : c.observations ≤ 16
-  pub few_states : c.states ≤ 64
-  pub seen : 0 < c.states → 0 < c.observations
-
 -- The counts that a pair keeps: those of its parts, or none if there is no pair of them.
 abbrev pub counts_nothing : Counts → Bool
 counts_nothing c = c.actions == 0 && (c.observations == 0 && c.states == 0)
@@ -67,7 +64,7 @@ together c d =
     && (not (counts_nothing d) && (nat_le (c.actions + d.actions) 8 && (nat_le (c.observations * d.observations) 16 && nat_le (c.states * d.states) 64)))
 
 abbrev pub none : Counts
-none = record { actions = 0; observations = 0; states = 0 }
+none = record { actions = 0; observations = 0; states = 0; few_actions = zero-le; few_observations = zero-le; few_states = zero-le; seen = λ none. none }
 
 pub record Shaped (c d first second : Counts) : Type 0 where
   pub first_is : first ≡ cond (together c d) c none

@@ -1,8 +1,8 @@
 // Pairs: two environments side by side, of which one moves at a time.
 #![tactic(auto)]
 
-ghost use Rattle.std.specs.Prelude.{◌≡◌};
-ghost use Rattle.pair.specs.Numbering.{counts_of, joined, Small};
+ghost use Rattle.std.specs.Prelude.{◌≡◌, ◌+◌, ◌*◌};
+ghost use Rattle.pair.specs.Numbering.{joined, AreCounts};
 ghost use Rattle.pair.specs.Pairs.{PairOf};
 ghost use Rattle.pair.specs.Paired.{joined_sound};
 ghost use Rattle.std.proofs.Common.{rules};
@@ -11,12 +11,12 @@ mod shape;
 
 use crate::shape::{Counts, Mover, Shape};
 use environment::{Alphabet, Environment};
-use sets::only;
+use sets::StateSet;
 
 // Two environments side by side. State s1 * S2 + s2 is the first in state s1 and the second in s2, and observations go likewise; the
 // first's actions come first, then those of the second, and each moves its own part alone. The counts of the parts are asked for once,
 // when the pair is made.
-#[derive(Clone, Copy, Drop)]
+#[derive(Clone, Copy, Debug, Drop, PartialEq, Eq)]
 pub struct Pair<E, F> {
     first: E,
     second: F,
@@ -25,8 +25,7 @@ pub struct Pair<E, F> {
 
 // The counts of an environment.
 fn counts<E: Environment>(environment: &E) -> Counts
-    ensures value { result ≡ counts_of (E.Environment.meaning environment.now) }
-    ensures small { Small result }
+    ensures { AreCounts (E.Environment.meaning environment.now) result }
 {
     Counts {
         actions: environment.actions(),
@@ -59,9 +58,9 @@ impl<E: Environment, F: Environment> Pair<E, F> {
 }
 
 impl<E: Environment, F: Environment> Alphabet for Pair<E, F> {
-    ghost acts = { λ e. (joined e.shape.first e.shape.second (E.Environment.meaning e.first) (F.Environment.meaning e.second)).actions };
+    ghost acts = { λ e. e.shape.first.actions + e.shape.second.actions };
 
-    ghost sights = { λ e. (joined e.shape.first e.shape.second (E.Environment.meaning e.first) (F.Environment.meaning e.second)).observations };
+    ghost sights = { λ e. e.shape.first.observations * e.shape.second.observations };
 
     fn actions(&self) -> u8 {
         self.shape.actions()
@@ -85,37 +84,38 @@ impl<E: Environment, F: Environment> Environment for Pair<E, F> {
         self.shape.states()
     }
 
-    fn initial(&self) -> u64 {
+    fn initial(&self) -> StateSet {
         self.shape
             .product(self.first.initial(), self.second.initial())
     }
 
-    fn goal(&self) -> u64 {
+    fn goal(&self) -> StateSet {
         self.shape.product(self.first.goal(), self.second.goal())
     }
 
     fn observation(&self, state: u8) -> u8 {
-        match self.shape.parts(state) {
-            Some(at) => self.shape.sight(
+        self.shape.parts(state).map_or(0, |at| {
+            self.shape.sight(
                 self.first.observation(at.first),
                 self.second.observation(at.second),
-            ),
-            None => 0,
-        }
+            )
+        })
     }
 
-    fn outcomes(&self, state: u8, action: u8) -> u64 {
+    fn outcomes(&self, state: u8, action: u8) -> StateSet {
         let Some(at) = self.shape.parts(state) else {
-            return 0;
+            return StateSet::EMPTY;
         };
         match self.shape.mover(action) {
-            Some(Mover::First(action)) => self
-                .shape
-                .product(self.first.outcomes(at.first, action), only(at.second)),
-            Some(Mover::Second(action)) => self
-                .shape
-                .product(only(at.first), self.second.outcomes(at.second, action)),
-            None => 0,
+            Some(Mover::First(action)) => self.shape.product(
+                self.first.outcomes(at.first, action),
+                StateSet::only(at.second),
+            ),
+            Some(Mover::Second(action)) => self.shape.product(
+                StateSet::only(at.first),
+                self.second.outcomes(at.second, action),
+            ),
+            None => StateSet::EMPTY,
         }
     }
 }

@@ -1,43 +1,35 @@
-ghost use Rattle.std.specs.Prelude.{◌≡◌, ◌+◌, ◌*◌, ◌<◌, ◌&&◌, nat_le};
-ghost use Rattle.pair.specs.Numbering.{parts_of, mover_of, sight_of, counts_nothing, Small, Shaped};
+ghost use Rattle.std.specs.Prelude.{◌≡◌, ◌+◌, ◌*◌, ◌&&◌, nat_le};
+ghost use Rattle.pair.specs.Numbering.{parts_of, mover_of, sight_of, Shaped};
 ghost use Rattle.pair.specs.Pairs.{product as product_of};
 
 use crate::shape::{Counts, Mover, Parts, Shape};
 use environment::{MOST_ACTIONS, MOST_OBSERVATIONS, MOST_STATES};
-use sets::below;
+use sets::StateSet;
 
+// The counts of the empty environment.
 const NONE: Counts = Counts {
     actions: 0,
     observations: 0,
     states: 0,
 };
 
-impl Counts {
-    // Is it the empty environment that has these?
-    fn empty(&self) -> bool
-        ensures { result ≡ counts_nothing self.now }
-    {
-        self.actions == 0 && self.observations == 0 && self.states == 0
-    }
-}
-
 // Do the counts of a pair keep the limits?
 fn within_limits(first: Counts, second: Counts) -> bool
-    requires { Small first × Small second }
     ensures { result ≡ (nat_le (first.actions + second.actions) 8 && (nat_le (first.observations * second.observations) 16 && nat_le (first.states * second.states) 64)) }
 {
+    let observations = u16::from(first.observations) * u16::from(second.observations);
+    let states = u16::from(first.states) * u16::from(second.states);
     first.actions + second.actions <= MOST_ACTIONS
-        && first.observations as u16 * second.observations as u16 <= MOST_OBSERVATIONS as u16
-        && first.states as u16 * second.states as u16 <= MOST_STATES as u16
+        && observations <= u16::from(MOST_OBSERVATIONS)
+        && states <= u16::from(MOST_STATES)
 }
 
 impl Shape {
     // The shape of a pair of parts with these counts; that of no pair, all zero, if a part is empty or a count passes its limit.
     pub(crate) fn of(first: Counts, second: Counts) -> Shape
-        requires { Small first × Small second }
         ensures { Shaped first second result.first result.second }
     {
-        if first.empty() || second.empty() || !within_limits(first, second) {
+        if first == NONE || second == NONE || !within_limits(first, second) {
             return Shape {
                 first: NONE,
                 second: NONE,
@@ -104,20 +96,15 @@ impl Shape {
 
     // The states whose first part is in one set and whose second part is in the other: a copy of the second set for each state of the
     // first.
-    pub(crate) fn product(&self, first: u64, second: u64) -> u64
+    pub(crate) fn product(&self, first: StateSet, second: StateSet) -> StateSet
         ensures { result ≡ product_of self.now.first.states self.now.second.states first second }
     {
         let width = self.second.states;
-        if self.states() == 0 {
-            return 0;
-        }
-        let row = second & below(width);
-        let mut left = first & below(self.first.states);
-        let mut set = 0;
-        'rows: while left != 0 {
-            let part = left.trailing_zeros() as u8;
-            left &= !(1 << part);
-            set |= row << (part * width);
+        let rows = first.intersection(StateSet::below(self.first.states));
+        let row = second.intersection(StateSet::below(width));
+        let mut set = StateSet::EMPTY;
+        for part in rows.states() {
+            set = set.union(row.moved_up(part * width));
         }
         set
     }

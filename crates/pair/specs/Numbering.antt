@@ -6,6 +6,7 @@ use Rattle.std.proofs.Common.{zero-le}
 use Rattle.sets.specs.Mask.{only}
 use Rattle.environment.specs.System.{System}
 use Rattle.pair.specs.declared.shape.Counts.{Counts}
+use Rattle.pair.specs.declared.shape.Shape.{Shape}
 use Rattle.pair.specs.declared.shape.Parts.{Parts}
 use Rattle.pair.specs.declared.shape.Mover.{Mover}
 use Rattle.pair.specs.declared.shape.Mover.TheVariants.{First, Second}
@@ -53,6 +54,10 @@ joined c d x y = record {
   observation = λ s. seen_in c d x y (parts_of c d s);
   outcomes = λ s a. led_from c d x y (mover_of c d a) (parts_of c d s);
 }
+
+-- The pair of x and y by the counts that it keeps.
+abbrev pub by_shape : Shape → System → System → System
+by_shape s x y = joined s.first s.second x y
 
 -- The counts that a pair keeps: those of its parts, or none if there is no pair of them.
 abbrev pub counts_nothing : Counts → Bool

@@ -4,8 +4,8 @@ use Rattle.std.specs.Prelude.{◌≡◌, ℕ, ◌+◌, ◌-◌, ◌*◌, ◌/◌
 use mathlib.Core.HLevel.{Π_prop, is_prop→PathP}
 use Rattle.std.proofs.Math.Path.{sym}
 use Rattle.std.proofs.Math.Bridge.{le_prop}
-use Rattle.std.proofs.Common.{ap, ap₂, subst, subst₂, ◌∙◌, inl, inr, arith, mul_comm, mul-zero, zero-mul}
-use Rattle.std.proofs.lemmas.Nat.{div_below, div-mul-add, mod_below, mod-mul-add, mul-add-lt, mul-lt, pow_pos}
+use Rattle.std.proofs.Common.{ap, ap₂, subst, subst₂, ◌∙◌, inl, inr, arith, mul_comm, mul-zero}
+use Rattle.std.proofs.lemmas.Nat.{div_below, div-mul-add, mod_below, mod-mul-add, mul-add-lt, pow_pos}
 use Rattle.std.proofs.lemmas.Bool.{cases_Bool, cases_lt, cases_eq, cond_both, cond-true, cond-false, lt-ltb, le-ltb, ltb-true, and_parts, and_right, and_from}
 use Rattle.sets.specs.Mask.{has, set_of, only}
 use Rattle.sets.proofs.Bits.{has_none, has_one}
@@ -13,10 +13,11 @@ use Rattle.sets.proofs.Chosen.{chosen-lt, has_chosen, none_chosen}
 use Rattle.environment.specs.System.{System, Sound, empty}
 use Rattle.environment.proofs.Systems.{same_system}
 use Rattle.pair.specs.declared.shape.Counts.{Counts}
+use Rattle.pair.specs.declared.shape.Shape.{Shape}
 use Rattle.pair.specs.declared.shape.Parts.{Parts}
 use Rattle.pair.specs.declared.shape.Mover.{Mover}
 use Rattle.pair.specs.declared.shape.Mover.TheVariants.{First, Second}
-use Rattle.pair.specs.Numbering.{AreCounts, parts_of, mover_of, sight_of, seen_in, led_from, joined, Shaped, none}
+use Rattle.pair.specs.Numbering.{AreCounts, parts_of, mover_of, sight_of, seen_in, led_from, joined, by_shape, Shaped, none}
 use Rattle.pair.specs.Pairs.{product, beside, fits, SideBySide, PairOf}
 
 -- a product that is not 0 has a second factor that is not 0
@@ -60,20 +61,25 @@ module _ (c d : Counts) (x y : System) where
       omega (arith, mul-add-lt o1 d.observations o2 c.observations (ltb-true _ _ h.0) (ltb-true _ _ h.1), mul_comm c.observations d.observations))
       (λ _. some)
 
-  pub joined_sound : c.actions + d.actions ≤ 8 → c.observations * d.observations ≤ 16 → c.states * d.states ≤ 64
-      → (0 < c.states * d.states → 0 < c.observations * d.observations) → Sound (joined c d x y)
-  joined_sound able narrow few seen = record {
-    few_actions = able;
-    few_observations = narrow;
-    few_states = few;
-    initial_in = product_lt c.states d.states x.initial y.initial;
-    goal_in = product_lt c.states d.states x.goal y.goal;
-    outcomes_in = λ s a. led-lt (mover_of c d a) (parts_of c d s);
-    observation_in = λ s h. rw (lt-ltb s (c.states * d.states) h) (sight-lt _ _ (seen (omega arith)));
-    observation_out = λ s h. ap (seen_in c d x y) (no_state s h);
-    no_such_state = λ s a h. ap (led_from c d x y (mover_of c d a)) (no_state s h);
-    no_such_action = λ s a h. ap (λ m. led_from c d x y m (parts_of c d s)) (no_action a h) ∙ unmoved (parts_of c d s);
-  }
+pub by_shape_sound : (k : Shape) (x y : System) → Sound (by_shape k x y)
+by_shape_sound k x y = record {
+  few_actions = k.able;
+  few_observations = k.narrow;
+  few_states = k.few;
+  initial_in = product_lt c.states d.states x.initial y.initial;
+  goal_in = product_lt c.states d.states x.goal y.goal;
+  outcomes_in = λ s a. led-lt c d x y (mover_of c d a) (parts_of c d s);
+  observation_in = λ s h. rw (lt-ltb s (c.states * d.states) h) (sight-lt c d x y _ _ (k.seen (omega arith)));
+  observation_out = λ s h. ap (seen_in c d x y) (no_state c d x y s h);
+  no_such_state = λ s a h. ap (led_from c d x y (mover_of c d a)) (no_state c d x y s h);
+  no_such_action = λ s a h. ap (λ m. led_from c d x y m (parts_of c d s)) (no_action c d x y a h) ∙ unmoved c d x y (parts_of c d s);
+}
+  where
+    c : Counts
+    c = k.first
+
+    d : Counts
+    d = k.second
 
 -- a pair of counts that are all zero is the empty environment
 none_joined : (x y : System) → joined none none x y ≡ empty
@@ -193,13 +199,3 @@ module _ (x y : System) (p : Sound x) (q : Sound y) where
 
   pub paired : (c d f s : Counts) → AreCounts x c → AreCounts y d → Shaped c d f s → PairOf x y (joined f s x y)
   paired c d f s m n shaped = paired_by f s (subst₂ (λ (k l : Counts). Shaped k l f s) (counts_are x p c m) (counts_are y q d n) shaped)
-
--- where both parts have a state, both have an observation
-pub both_seen : (c d : Counts) → 0 < c.states * d.states → 0 < c.observations * d.observations
-both_seen c d some = mul-lt 0 0 c.observations d.observations (c.seen (left c.states d.states some)) (d.seen (right c.states d.states some))
-  where
-    left : (m n : ℕ) → 0 < m * n → 0 < m
-    left m n h = elim (cases_eq m 0) [ inl e ↦ absurd (omega (arith, subst (λ (k : ℕ). 0 < k * n) e h, zero-mul n)) | inr ne ↦ omega arith ]
-
-    right : (m n : ℕ) → 0 < m * n → 0 < n
-    right m n h = left n m (subst (λ (k : ℕ). 0 < k) (mul_comm m n) h)

@@ -2,9 +2,9 @@
 #![tactic(auto)]
 
 ghost use Rattle.std.specs.Prelude.{◌≡◌, ◌+◌, ◌*◌};
-ghost use Rattle.pair.specs.Numbering.{joined, AreCounts};
+ghost use Rattle.pair.specs.Numbering.{by_shape, AreCounts};
 ghost use Rattle.pair.specs.Pairs.{PairOf};
-ghost use Rattle.pair.specs.Paired.{joined_sound};
+ghost use Rattle.pair.specs.Paired.{by_shape_sound};
 ghost use Rattle.std.proofs.Common.{rules};
 
 mod shape;
@@ -34,21 +34,14 @@ fn counts<E: Environment>(environment: &E) -> Counts
     }
 }
 
-// The counts by which the pair of two environments is numbered.
-fn shape_of<E: Environment, F: Environment>(first: &E, second: &F) -> Shape
-    ensures { PairOf (E.Environment.meaning first.now) (F.Environment.meaning second.now) (joined result.first result.second (E.Environment.meaning first.now) (F.Environment.meaning second.now)) }
-{
-    Shape::of(counts(first), counts(second))
-}
-
 impl<E: Environment, F: Environment> Pair<E, F> {
     // The pair of the two environments; the empty environment, if a part is empty or a count passes its limit.
     pub fn new(first: E, second: F) -> Pair<E, F>
         ensures first { result.first ≡ first }
         ensures second { result.second ≡ second }
-        ensures pair { PairOf (E.Environment.meaning first) (F.Environment.meaning second) (joined result.shape.first result.shape.second (E.Environment.meaning result.first) (F.Environment.meaning result.second)) }
+        ensures pair { PairOf (E.Environment.meaning first) (F.Environment.meaning second) (⟦<Pair<E, F> as Environment>⟧.meaning result) }
     {
-        let shape = shape_of(&first, &second);
+        let shape = Shape::of(counts(&first), counts(&second));
         Pair {
             first,
             second,
@@ -72,9 +65,9 @@ impl<E: Environment, F: Environment> Alphabet for Pair<E, F> {
 }
 
 impl<E: Environment, F: Environment> Environment for Pair<E, F> {
-    ghost meaning = { λ e. joined e.shape.first e.shape.second (E.Environment.meaning e.first) (F.Environment.meaning e.second) };
+    ghost meaning = { λ e. by_shape e.shape (E.Environment.meaning e.first) (F.Environment.meaning e.second) };
 
-    ghost sound = { λ e. joined_sound e.shape.first e.shape.second (E.Environment.meaning e.first) (F.Environment.meaning e.second) e.shape.able e.shape.narrow e.shape.few e.shape.seen };
+    ghost sound = { λ e. by_shape_sound e.shape (E.Environment.meaning e.first) (F.Environment.meaning e.second) };
 
     ghost same_actions = { Prim.search rules };
 

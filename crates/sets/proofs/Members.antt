@@ -5,8 +5,8 @@ use lib.Bits.{bit_and, bit_or, or_disjoint, and_le_l}
 use lib.Count.{count_trailing_zeros, under}
 use Rattle.std.proofs.lemmas.Bool.{cases_eq, cases_lt, cases_Bool, both_ways, eq-eqb, ne_eqb, not_from_true, not_from_false, not-true, le-ltb, lt-ltb, and_parts, and_from, and_left, and_right, or_right}
 use Rattle.std.proofs.lemmas.Nat.{one_shl, or_lt, pow_below, pow_pos}
-use Rattle.sets.specs.Mask.{has, only, Smallest, Takes}
-use Rattle.sets.proofs.Bits.{has-or, has-and, has_one, has_none, has_above, has_in, has-not, has-suc, has_self, same_set}
+use Rattle.sets.specs.Mask.{has, only, Smallest}
+use Rattle.sets.proofs.Bits.{has-or, has-and, has_one, has_none, has_above, has-not, has-suc, has_self, same_set}
 
 low_bit : (a : ℕ) → has a 0 ≡ eqb (a % 2) 1
 unfolding has

@@ -1,11 +1,11 @@
--- Laws of shifted sets: every state of a set moved down or up, and rows of states, each as wide as the one before.
-use Rattle.std.proofs.Common.{◌≡◌, ℕ, suc, ◌+◌, ◌-◌, ◌*◌, ◌/◌, ◌%◌, ◌^◌, ◌<◌, ◌≤◌, Bool, true, false, not, ◌&&◌, eqb, ltb, leb, Option, None, Some, refl, sym, ap, ◌∙◌, subst, inl, inr, mul_assoc, suc-mul, pow-suc, arith}
+-- Laws of shifted sets: every state of a set moved down or up.
+use Rattle.std.proofs.Common.{◌≡◌, ℕ, suc, ◌+◌, ◌-◌, ◌*◌, ◌/◌, ◌%◌, ◌^◌, ◌<◌, Bool, true, false, not, ◌&&◌, eqb, ltb, leb, Option, None, Some, refl, sym, ap, ◌∙◌, inl, inr, mul_assoc, pow-suc, arith}
 use native.Mathlib.Nat.{sub-zero, mul-mod_left}
 use lib.Bits.{and_mask}
 use Rattle.std.specs.Option.{SomeIff, unwrap_or}
 use Rattle.std.proofs.Math.Bool.{and_comm}
-use Rattle.std.proofs.lemmas.Nat.{pow-add, pow_pos, shl-shr, shr-shr, shl_below, div-add-mod', mod_below, mul-le}
-use Rattle.std.proofs.lemmas.Bool.{cases_lt, cases_order, eq-eqb, ne_eqb, le-ltb, lt-ltb, le-leb, lt-leb, and_left, and_right}
+use Rattle.std.proofs.lemmas.Nat.{pow-add, pow_pos, shl-shr, shr-shr}
+use Rattle.std.proofs.lemmas.Bool.{cases_lt, le-ltb, lt-ltb, le-leb, lt-leb, and_left, and_right}
 use Rattle.sets.specs.Mask.{has}
 use Rattle.sets.proofs.Bits.{has_above, has_none, has-and, has-not}
 
@@ -62,18 +62,3 @@ has_shl None x k t far = has_none t ∙ elim (cases_lt t 64) [
   | inr g ↦ rw (le-ltb t 64 g) refl
 ]
 has_shl (Some y) x k t is = ap (λ (z : ℕ). has z t) is.1 ∙ has_moved x k t
-
--- A set of states below w, moved up by r rows of w states: state t lies in row t / w, at the place t % w.
-pub has_row : (y w r t : ℕ) → 0 < w → y < 2 ^ w → has (y * 2 ^ (r * w)) t ≡ (eqb r (t / w) && has y (t % w))
-has_row y w r t some narrow = elim (cases_order r (t / w)) [
-  | inl e ↦
-      let at : r * w + t % w ≡ t = ap (λ (n : ℕ). n * w + t % w) e ∙ div-add-mod' t w in
-      subst (λ (n : ℕ). has (y * 2 ^ (r * w)) n ≡ (eqb r (t / w) && has y (t % w))) at
-      (has_up y (r * w) (t % w) ∙ sym (ap (λ b. b && has y (t % w)) (eq-eqb r (t / w) e)))
-  | inr (inl l) ↦
-      let far : w + r * w ≤ t = omega (arith, div-add-mod' t w, mul-le (suc r) w (t / w) w (omega arith) (omega arith), suc-mul r w) in
-      has_above (y * 2 ^ (r * w)) (w + r * w) t (shl_below y w (r * w) narrow) far ∙ sym (and_left (eqb r (t / w)) (has y (t % w)) (ne_eqb r (t / w) (λ e. omega arith)))
-  | inr (inr g) ↦
-      let near : t < r * w = omega (arith, div-add-mod' t w, mod_below t w some, mul-le (suc (t / w)) w r w (omega arith) (omega arith), suc-mul (t / w) w) in
-      has_under y (r * w) t near ∙ sym (and_left (eqb r (t / w)) (has y (t % w)) (ne_eqb r (t / w) (λ e. omega arith)))
-]

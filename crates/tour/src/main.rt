@@ -4,13 +4,12 @@
 
 ghost use Rattle.std.specs.Prelude.{◌≡◌, ◌*◌, ◌<◌};
 ghost use Rattle.environment.specs.System.{empty};
-ghost use Rattle.pair.specs.Numbering.{joined};
 ghost use Rattle.shuttle.specs.Shuttles.{shuttle};
 
 use environment::{Alphabet, Environment};
 use modelsheet::model::Model;
 use pair::Pair;
-use sets::contains;
+use sets::StateSet;
 use shuttle::Shuttle;
 use slip::Slip;
 use std::{fmt, io};
@@ -37,21 +36,18 @@ const GATE: [u8; 29] = [
 ];
 
 // A set of states, which prints as the states in it.
-#[derive(Clone, Copy)]
-struct Set(u64);
+#[derive(Clone, Copy, Debug, PartialEq, Eq)]
+struct Shown(StateSet);
 
-impl fmt::Display for Set {
+impl fmt::Display for Shown {
     fn fmt<W: fmt::Write>(&self, f: &mut fmt::Formatter<W>) -> fmt::Result {
         f.write_str("{")?;
-        let mut first = true;
-        for state in 0..64 {
-            if contains(self.0, state) {
-                if !first {
-                    f.write_str(" ")?;
-                }
-                first = false;
-                write!(f, "{state}")?;
-            }
+        let mut states = self.0.states();
+        if let Some(first) = states.next() {
+            write!(f, "{first}")?;
+        }
+        for state in states {
+            write!(f, " {state}")?;
         }
         f.write_str("}")
     }
@@ -62,7 +58,7 @@ fn show_state(rt: &impl Print, environment: &impl Environment, state: u8) -> io:
     let sight = environment.observation(state);
     print!(rt; "{state} sees {sight}:")?;
     for action in 0..environment.actions() {
-        let outcomes = Set(environment.outcomes(state, action));
+        let outcomes = Shown(environment.outcomes(state, action));
         print!(rt; " {outcomes}")?;
     }
     println!(rt; "")
@@ -75,22 +71,22 @@ fn show(rt: &impl Print, name: &str, environment: &impl Environment) -> io::Resu
     let observations = environment.observations();
     let states = environment.states();
     println!(rt; "{name}: {actions} actions, {observations} observations, {states} states")?;
-    let initial = Set(environment.initial());
-    let goal = Set(environment.goal());
+    let initial = Shown(environment.initial());
+    let goal = Shown(environment.goal());
     println!(rt; "begins in {initial}, is to stop in {goal}")?;
     for state in 0..states {
         show_state(rt, environment, state)?;
     }
     let sight = environment.observation(states);
-    let from = Set(environment.outcomes(states, 0));
-    let by = Set(environment.outcomes(0, actions));
+    let from = Shown(environment.outcomes(states, 0));
+    let by = Shown(environment.outcomes(0, actions));
     println!(rt; "out of range: {sight} {from} {by}")
 }
 
 // A pair of shuttles of 5 and 4 places is the empty environment, because 10 times 8 states are more than 64.
 fn wide_pair() -> Pair<Shuttle, Shuttle>
     ensures because { 64 < (shuttle 5).states * (shuttle 4).states }
-    ensures empty { joined result.shape.first result.shape.second (shuttle result.first.places) (shuttle result.second.places) ≡ empty }
+    ensures empty { ⟦<Pair<Shuttle, Shuttle> as Environment>⟧.meaning result ≡ empty }
 {
     Pair::new(Shuttle::new(5), Shuttle::new(4))
 }

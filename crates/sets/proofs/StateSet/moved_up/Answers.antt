@@ -1,4 +1,3 @@
-use Rattle.std.proofs.Common.{◌<◌, ◌≡◌}
 use Rattle.sets.proofs.Shifts.{has_shl}
 use Rattle.sets.proofs.StateSet.moved_up.Goals as goal
 

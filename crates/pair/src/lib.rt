@@ -34,6 +34,13 @@ fn counts<E: Environment>(environment: &E) -> Counts
     }
 }
 
+// The counts by which the pair of two environments is numbered.
+fn shape_of<E: Environment, F: Environment>(first: &E, second: &F) -> Shape
+    ensures { PairOf (E.Environment.meaning first.now) (F.Environment.meaning second.now) (by_shape result (E.Environment.meaning first.now) (F.Environment.meaning second.now)) }
+{
+    Shape::of(counts(first), counts(second))
+}
+
 impl<E: Environment, F: Environment> Pair<E, F> {
     // The pair of the two environments; the empty environment, if a part is empty or a count passes its limit.
     pub fn new(first: E, second: F) -> Pair<E, F>
@@ -41,7 +48,7 @@ impl<E: Environment, F: Environment> Pair<E, F> {
         ensures second { result.second ≡ second }
         ensures pair { PairOf (E.Environment.meaning first) (F.Environment.meaning second) (⟦<Pair<E, F> as Environment>⟧.meaning result) }
     {
-        let shape = Shape::of(counts(&first), counts(&second));
+        let shape = shape_of(&first, &second);
         Pair {
             first,
             second,

@@ -1,6 +1,7 @@
 -- How the product of two sets is made: a copy of the second set for each state of the first, in rows of w states.
 use Rattle.std.specs.Prelude.{◌≡◌, ℕ, suc, ◌+◌, ◌-◌, ◌*◌, ◌/◌, ◌%◌, ◌<◌, ◌≤◌, min, Bool, true, false, not, ◌&&◌, ◌||◌, ltb, ◌==◌, nat_le, nat_lt, refl}
 use Rattle.std.proofs.Common.{sym, ap, ap₂, subst, ◌∙◌, inl, inr, arith, mul-zero, suc-mul}
+use Rattle.std.proofs.Math.Bool.{and-not_self}
 use Rattle.std.proofs.lemmas.Nat.{div_below, div-add-mod', le-div, mod_below, mul-le}
 use Rattle.std.proofs.lemmas.Bool.{cases_lt, cases_eq, cases_order, eq-eqb, ne_eqb, lt-ltb, le-ltb, le-leb, lt-leb, ltb-true, and_left, and_parts, and_right}
 use Rattle.sets.specs.Mask.{has, Smallest}
@@ -31,11 +32,7 @@ pub record Copied (w rows row left set : ℕ) : Type 0 where
   pub copied : (t : ℕ) → has set t ≡ ((has rows (t / w) && not (has left (t / w))) && has row (t % w))
 
 pub nothing_copied : (w rows row : ℕ) → Copied w rows row rows 0
-nothing_copied w rows row = record { left_in = λ k h. h; copied = λ t. has_none t ∙ sym (and_left _ _ (never (has rows (t / w)))) }
-  where
-    never : (b : Bool) → (b && not b) ≡ false
-    never true = refl
-    never false = refl
+nothing_copied w rows row = record { left_in = λ k h. h; copied = λ t. has_none t ∙ sym (and_left _ _ (and-not_self (has rows (t / w)))) }
 
 module _ (h w p q rows row left part : ℕ) (f : Framed h w p q rows row) (in_rows : (k : ℕ) → has left k ≡ true → has rows k ≡ true) (least : Smallest left part) where
   below : part < h

@@ -1,9 +1,9 @@
 -- Laws of shifted sets: every state of a set moved down or up.
-use Rattle.std.proofs.Common.{◌≡◌, ℕ, suc, ◌+◌, ◌-◌, ◌*◌, ◌/◌, ◌%◌, ◌^◌, ◌<◌, Bool, true, false, not, ◌&&◌, eqb, ltb, leb, Option, None, Some, refl, sym, ap, ◌∙◌, inl, inr, mul_assoc, pow-suc, arith}
+use Rattle.std.proofs.Common.{◌≡◌, ℕ, suc, ◌+◌, ◌-◌, ◌*◌, ◌/◌, ◌%◌, ◌^◌, ◌<◌, false, not, ◌&&◌, eqb, ltb, leb, Option, None, Some, refl, sym, ap, ◌∙◌, inl, inr, mul_assoc, pow-suc, arith}
 use native.Mathlib.Nat.{sub-zero, mul-mod_left}
 use lib.Bits.{and_mask}
 use Rattle.std.specs.Option.{SomeIff, unwrap_or}
-use Rattle.std.proofs.Math.Bool.{and_comm}
+use Rattle.std.proofs.Math.Bool.{and-false, and-true, and_comm}
 use Rattle.std.proofs.lemmas.Nat.{pow-add, pow_pos, shl-shr, shr-shr}
 use Rattle.std.proofs.lemmas.Bool.{cases_lt, le-ltb, lt-ltb, le-leb, lt-leb, and_left, and_right}
 use Rattle.sets.specs.Mask.{has}
@@ -43,17 +43,9 @@ has_cut x n t =
 -- what is in a set that is moved up by k states, of which those past 63 are gone
 pub has_moved : (x k t : ℕ) → has ((x * 2 ^ k) % 2 ^ 64) t ≡ (ltb t 64 && leb k t && has x (t - k))
 has_moved x k t = has_cut (x * 2 ^ k) 64 t ∙ elim (cases_lt t k) [
-  | inl l ↦ rw (has_under x k t l, lt-leb k t l) (gone (ltb t 64) (has x (t - k)))
-  | inr g ↦ let e : k + (t - k) ≡ t = omega arith in rw (le-leb k t g, ap (has (x * 2 ^ k)) (sym e) ∙ has_up x k (t - k)) (kept (ltb t 64) (has x (t - k)))
+  | inl l ↦ rw (has_under x k t l, lt-leb k t l, and-false (ltb t 64)) refl
+  | inr g ↦ let e : k + (t - k) ≡ t = omega arith in rw (le-leb k t g, and-true (ltb t 64), ap (has (x * 2 ^ k)) (sym e) ∙ has_up x k (t - k)) refl
 ]
-  where
-    gone : (b c : Bool) → (b && false) ≡ (b && false && c)
-    gone true c = refl
-    gone false c = refl
-
-    kept : (b c : Bool) → (b && c) ≡ (b && true && c)
-    kept true c = refl
-    kept false c = refl
 
 -- the same, as `checked_shl` makes it
 pub has_shl : (o : Option ℕ) (x k t : ℕ) → SomeIff o (k < 64) ((x * 2 ^ k) % 2 ^ 64) → has (unwrap_or o 0) t ≡ (ltb t 64 && leb k t && has x (t - k))

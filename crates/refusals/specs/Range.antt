@@ -1,6 +1,6 @@
 -- Numbers that are out of range.
-use Rattle.std.specs.Prelude.{Bool, ◌||◌, ℕ, eqb, ltb}
+use Rattle.std.specs.Prelude.{Bool, ◌||◌, ℕ, ◌==◌, nat_lt}
 
 -- x is not from 1 to n
 abbrev pub outside : ℕ → ℕ → Bool
-outside n x = eqb x 0 || ltb n x
+outside n x = x == 0 || nat_lt n x

@@ -8,54 +8,54 @@ ghost use Rattle.refusals.specs.Number.{number};
 pub enum Refusal {
     // Refused by the input: a file or a number is wrong.
     // A sheet or a job file is too short, or has not the length that its header lays down.
-    Length,
+    Length = 1,
     // The first byte of a sheet is not its mark.
-    Mark,
+    Mark = 2,
     // A count of a header is out of its range.
-    Count,
+    Count = 3,
     // The initial set is empty, or a set names a state that the model does not have.
-    StateSet,
+    StateSet = 4,
     // The observation of a state is not one of the model's.
-    Observation,
+    Observation = 5,
     // A head or a next index is beyond the last record, or not as the format lays it down.
-    Index,
+    Index = 6,
     // The next index of a model's record is not greater than the record's own.
-    NotRising,
+    NotRising = 7,
     // A field of a record is out of its range.
-    Field,
+    Field = 8,
     // A target stands twice in a chain, or the observations of a chain do not rise.
-    Repeated,
+    Repeated = 9,
     // The bound on memories is not 1 to 4.
-    Bound,
+    Bound = 10,
     // The amount of an advance is not 1 to 1,000,000.
-    Amount,
+    Amount = 11,
     // A bar names an observation or an action that the alphabet does not have.
-    Bar,
+    Bar = 12,
     // The environment has no states, or no initial state.
-    NoStart,
+    NoStart = 13,
     // There are fewer loads than configurations.
-    FewLoads,
+    FewLoads = 14,
     // The buffer is shorter than the sheet.
-    ShortBuffer,
+    ShortBuffer = 15,
     // The sheet is written for another alphabet.
-    OtherAlphabet,
+    OtherAlphabet = 16,
     // A reading with an observation or at a memory that the table does not have.
-    OutsideTable,
+    OutsideTable = 17,
     // The rule byte of a job file names no finish rule.
-    Rule,
+    Rule = 18,
     // Refused by the state: the call comes at the wrong time.
     // The case has not begun.
-    NotBegun,
+    NotBegun = 20,
     // The case has begun already.
-    AlreadyBegun,
+    AlreadyBegun = 21,
     // The case is searching or none, so that there is no found table.
-    NothingFound,
+    NothingFound = 22,
     // The case is found or none, so that there is nothing to advance.
-    NotSearching,
+    NotSearching = 23,
     // The picture has a cycle, so that no run has a greatest load.
-    Cycle,
+    Cycle = 24,
     // The entry at a reading is blank.
-    BlankEntry,
+    BlankEntry = 25,
 }
 
 impl Refusal {
@@ -63,31 +63,6 @@ impl Refusal {
     pub fn number(self) -> u8
         ensures { result ≡ number self }
     {
-        match self {
-            Refusal::Length => 1,
-            Refusal::Mark => 2,
-            Refusal::Count => 3,
-            Refusal::StateSet => 4,
-            Refusal::Observation => 5,
-            Refusal::Index => 6,
-            Refusal::NotRising => 7,
-            Refusal::Field => 8,
-            Refusal::Repeated => 9,
-            Refusal::Bound => 10,
-            Refusal::Amount => 11,
-            Refusal::Bar => 12,
-            Refusal::NoStart => 13,
-            Refusal::FewLoads => 14,
-            Refusal::ShortBuffer => 15,
-            Refusal::OtherAlphabet => 16,
-            Refusal::OutsideTable => 17,
-            Refusal::Rule => 18,
-            Refusal::NotBegun => 20,
-            Refusal::AlreadyBegun => 21,
-            Refusal::NothingFound => 22,
-            Refusal::NotSearching => 23,
-            Refusal::Cycle => 24,
-            Refusal::BlankEntry => 25,
-        }
+        self as u8
     }
 }

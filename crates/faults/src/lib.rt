@@ -3,31 +3,43 @@
 #![tactic(auto)]
 
 ghost use Rattle.std.specs.Prelude.{◌≡◌};
-ghost use Rattle.faults.specs.Place.{in_sheet, in_file, layer_of, refusal_of, byte_of, head_of};
+ghost use Rattle.faults.specs.Place.{in_sheet, in_file, layer_of, fault_of, refusal_of, byte_of, head_of};
 
 use refusals::Refusal;
 
-// A fault in the chain that begins at the head of a state and an action. The byte counts in the sheet.
+// What is refused, and at which byte.
 #[derive(Clone, Copy, Debug, PartialEq, Eq)]
-pub struct ChainFault {
+pub struct Fault {
     pub refusal: Refusal,
     pub byte: usize,
+}
+
+// The state and the action whose chain has a fault.
+#[derive(Clone, Copy, Debug, PartialEq, Eq)]
+pub struct Head {
     pub state: u8,
     pub action: u8,
+}
+
+// A fault in the chain that begins at a head. The byte counts in the sheet.
+#[derive(Clone, Copy, Debug, PartialEq, Eq)]
+pub struct ChainFault {
+    pub fault: Fault,
+    pub head: Head,
 }
 
 // A fault of a model sheet: in one of its chains, or in what stands before them. The byte counts in the sheet.
 #[derive(Clone, Copy, Debug, PartialEq, Eq)]
 pub enum SheetFault {
     Chain(ChainFault),
-    Sheet { refusal: Refusal, byte: usize },
+    Sheet(Fault),
 }
 
 // A fault of a job file: in its sheet, or in what stands before it. The byte counts in the file.
 #[derive(Clone, Copy, Debug, PartialEq, Eq)]
 pub enum JobFault {
     Sheet(SheetFault),
-    File { refusal: Refusal, byte: usize },
+    File(Fault),
 }
 
 impl From<ChainFault> for SheetFault {
@@ -46,43 +58,38 @@ impl From<SheetFault> for JobFault {
     }
 }
 
-// The state and the action whose chain has a fault.
-#[derive(Clone, Copy, Debug, PartialEq, Eq)]
-pub struct Head {
-    pub state: u8,
-    pub action: u8,
-}
-
 impl JobFault {
-    // The layer: 1 for a chain, 2 for a sheet, 3 for a job file.
+    // The number by which the layer is reported: 1 for a chain, 2 for a sheet, 3 for a job file. The layers themselves are the variants.
     pub fn layer(self) -> u8
         ensures { result ≡ layer_of self }
     {
         match self {
             JobFault::Sheet(SheetFault::Chain(_)) => 1,
-            JobFault::Sheet(SheetFault::Sheet { .. }) => 2,
-            JobFault::File { .. } => 3,
+            JobFault::Sheet(SheetFault::Sheet(_)) => 2,
+            JobFault::File(_) => 3,
+        }
+    }
+
+    // What is refused and where, whatever the layer.
+    pub fn fault(self) -> Fault
+        ensures { result ≡ fault_of self }
+    {
+        match self {
+            JobFault::Sheet(SheetFault::Chain(chain)) => chain.fault,
+            JobFault::Sheet(SheetFault::Sheet(fault)) | JobFault::File(fault) => fault,
         }
     }
 
     pub fn refusal(self) -> Refusal
         ensures { result ≡ refusal_of self }
     {
-        match self {
-            JobFault::Sheet(SheetFault::Chain(fault)) => fault.refusal,
-            JobFault::Sheet(SheetFault::Sheet { refusal, .. }) => refusal,
-            JobFault::File { refusal, .. } => refusal,
-        }
+        self.fault().refusal
     }
 
     pub fn byte(self) -> usize
         ensures { result ≡ byte_of self }
     {
-        match self {
-            JobFault::Sheet(SheetFault::Chain(fault)) => fault.byte,
-            JobFault::Sheet(SheetFault::Sheet { byte, .. }) => byte,
-            JobFault::File { byte, .. } => byte,
-        }
+        self.fault().byte
     }
 
     // Where the fault lies in a chain: the head that the chain belongs to.
@@ -90,10 +97,7 @@ impl JobFault {
         ensures { result ≡ head_of self }
     {
         match self {
-            JobFault::Sheet(SheetFault::Chain(fault)) => Some(Head {
-                state: fault.state,
-                action: fault.action,
-            }),
+            JobFault::Sheet(SheetFault::Chain(chain)) => Some(chain.head),
             _ => None,
         }
     }

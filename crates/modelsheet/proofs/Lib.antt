@@ -3,3 +3,4 @@ pub mod Turns
 pub mod Writes
 pub mod Walks
 pub mod Whole
+pub mod Sights

@@ -6,7 +6,7 @@ use Rattle.faults.specs.declared.ChainFault.{ChainFault}
 use Rattle.sets.specs.Mask.{has}
 use Rattle.sets.proofs.Bits.{has_none}
 use Rattle.sets.proofs.More.{More, more-has, more_in, more_old, more_new, more_only}
-use Rattle.modelsheet.specs.declared.model.read.Record.{Record}
+use Rattle.modelsheet.specs.declared.model.sheet.Record.{Record}
 use Rattle.modelsheet.specs.Judge.{and_then, elem, judge_record, judge_chain}
 use Rattle.modelsheet.specs.Laid.{Marks, RecordRead, ChainRead}
 use Rattle.modelsheet.specs.Sheet.{states_of, records_of, target_of, next_of, OnChain}

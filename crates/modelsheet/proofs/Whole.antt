@@ -4,8 +4,8 @@ use Rattle.std.proofs.lemmas.Nat.{mul-add-lt}
 use Rattle.std.proofs.lemmas.Bool.{lt-ltb, and_from, cond-true}
 use Rattle.environment.specs.System.{System}
 use Rattle.sets.specs.Mask.{has}
-use Rattle.modelsheet.specs.declared.model.read.Sets.{Sets}
-use Rattle.modelsheet.specs.declared.model.read.Shape.{Shape}
+use Rattle.modelsheet.specs.declared.model.sheet.Sets.{Sets}
+use Rattle.modelsheet.specs.declared.model.sheet.Shape.{Shape}
 use Rattle.modelsheet.specs.Judge.{judge, judge_header, judge_sets, judge_sights, judge_heads}
 use Rattle.modelsheet.specs.Laid.{Laid, SetsRead, SightsRead, HeadsRead}
 use Rattle.modelsheet.specs.Says.{Says}

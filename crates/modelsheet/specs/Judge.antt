@@ -24,11 +24,11 @@ abbrev pub Judged : {A E : Type 0} → Result Unit E → (A → Type 0) → Resu
 Judged verdict P r = MatchResult r (λ x. (verdict ≡ Ok tt) × P x) (λ f. verdict ≡ Err f)
 
 abbrev pub refuse : Refusal → ℕ → Result Unit SheetFault
-refuse r at = Err (Sheet r at)
+refuse r at = Err (Sheet (record { refusal = r; byte = at }))
 
 -- A fault of the chain of state s and action a.
 abbrev pub fault_of : ℕ → ℕ → Refusal → ℕ → ChainFault
-fault_of s a r at = record { refusal = r; byte = at; state = s; action = a }
+fault_of s a r at = record { fault = record { refusal = r; byte = at }; head = record { state = s; action = a } }
 
 abbrev pub blame : ℕ → ℕ → Refusal → ℕ → Result Unit ChainFault
 blame s a r at = Err (fault_of s a r at)

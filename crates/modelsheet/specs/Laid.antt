@@ -1,8 +1,8 @@
 -- What the parts of a sheet come to once they are found right.
 use Rattle.std.specs.Prelude.{◌≡◌, ℕ, ◌*◌, ◌^◌, ◌<◌, ◌≤◌, List, length, Decides, slice_index}
-use Rattle.modelsheet.specs.declared.model.read.Record.{Record}
-use Rattle.modelsheet.specs.declared.model.read.Sets.{Sets}
-use Rattle.modelsheet.specs.declared.model.read.Shape.{Shape}
+use Rattle.modelsheet.specs.declared.model.sheet.Record.{Record}
+use Rattle.modelsheet.specs.declared.model.sheet.Sets.{Sets}
+use Rattle.modelsheet.specs.declared.model.sheet.Shape.{Shape}
 use Rattle.sets.specs.Mask.{has}
 use Rattle.modelsheet.specs.Judge.{elem}
 use Rattle.modelsheet.specs.Sheet.{states_of, actions_of, observations_of, records_of, initial_of, goal_of, sight_of, head_of, target_of, next_of, laid_length, OnChain}

@@ -7,8 +7,9 @@ pub mod model;
 mod tests {
     use crate::model::Model;
     use environment::Environment;
-    use faults::{ChainFault, SheetFault};
+    use faults::{ChainFault, Fault, Head, SheetFault};
     use refusals::Refusal;
+    use sets::StateSet;
     use std::test::Fail;
 
     // A shuttle of two places.
@@ -20,9 +21,9 @@ mod tests {
     #[test]
     fn reads_the_shuttle(rt: HostRuntime) -> Result<(), Fail> {
         let model = Model::read(&SHUTTLE)?;
-        assert_eq!(rt; model.outcomes(0, 1), 0b1000);
-        assert_eq!(rt; model.outcomes(3, 0), 0b0010);
-        assert_eq!(rt; model.outcomes(3, 1), 0);
+        assert_eq!(rt; model.outcomes(0, 1), StateSet::from(0b1000));
+        assert_eq!(rt; model.outcomes(3, 0), StateSet::from(0b0010));
+        assert_eq!(rt; model.outcomes(3, 1), StateSet::EMPTY);
         assert_eq!(rt; model.observation(3), 2);
         Ok(())
     }
@@ -32,10 +33,14 @@ mod tests {
         let mut sheet = SHUTTLE;
         sheet[34] = 1;
         let fault = SheetFault::Chain(ChainFault {
-            refusal: Refusal::NotRising,
-            byte: 34,
-            state: 0,
-            action: 1,
+            fault: Fault {
+                refusal: Refusal::NotRising,
+                byte: 34,
+            },
+            head: Head {
+                state: 0,
+                action: 1,
+            },
         });
         match Model::read(&sheet) {
             Ok(_) => Err(Fail::new("accepted")),

@@ -2,20 +2,22 @@ ghost use Rattle.std.specs.Prelude.{ℕ, ◌^◌, ◌<◌, ◌≤◌, slice_inde
 
 mod questions;
 mod read;
+mod sheet;
 
 pub use crate::model::read::says_one_system;
+use sets::StateSet;
 
-// The environment of a model sheet: what was read of the sheet, with the outcome sets as masks, so that a question costs no walk of a
+// The environment of a model sheet: what was read of the sheet, with the outcome sets made, so that a question costs no walk of a
 // chain. The outcome set of a state and an action stands at state * actions + action; places past the last are not used.
 #[derive(Clone, Copy)]
 pub struct Model {
     states: u8,
     actions: u8,
     observations: u8,
-    initial: u64,
-    goal: u64,
+    initial: StateSet,
+    goal: StateSet,
     sights: [u8; 64],
-    leads: [u64; 512],
+    leads: [StateSet; 512],
     ghost few: { states ≤ 64 },
     ghost able: { actions ≤ 8 },
     ghost narrow: { observations ≤ 16 },

@@ -4,6 +4,7 @@ ghost use Rattle.std.proofs.Common.{rules, arith};
 
 use crate::model::Model;
 use environment::{Alphabet, Environment};
+use sets::StateSet;
 
 impl Alphabet for Model {
     ghost acts = { λ m. m.actions };
@@ -32,11 +33,11 @@ impl Environment for Model {
         self.states
     }
 
-    fn initial(&self) -> u64 {
+    fn initial(&self) -> StateSet {
         self.initial
     }
 
-    fn goal(&self) -> u64 {
+    fn goal(&self) -> StateSet {
         self.goal
     }
 
@@ -48,11 +49,11 @@ impl Environment for Model {
         }
     }
 
-    fn outcomes(&self, state: u8, action: u8) -> u64 {
+    fn outcomes(&self, state: u8, action: u8) -> StateSet {
         if state < self.states && action < self.actions {
             self.leads[state as usize * self.actions as usize + action as usize]
         } else {
-            0
+            StateSet::EMPTY
         }
     }
 }

@@ -3,8 +3,8 @@ use Rattle.sets.proofs.Arrays.{zeros}
 use Rattle.modelsheet.proofs.OneSystem.{empty_system}
 use Rattle.modelsheet.proofs.model.Model.empty.Goals as goal
 
-pub invariant_of-result : goal.invariant_of-result
-invariant_of-result c = record {
+pub invariant_of-result-4 : goal.invariant_of-result-4
+invariant_of-result-4 c = record {
   few = lit≤ tt;
   able = lit≤ tt;
   narrow = lit≤ tt;

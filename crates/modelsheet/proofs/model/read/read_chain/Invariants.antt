@@ -1,9 +1,0 @@
-use Rattle.std.proofs.Common.{◌+◌, ◌-◌, cond, eqb}
-use Rattle.modelsheet.proofs.Walks.{Walked}
-use Rattle.modelsheet.proofs.model.read.read_chain.Given as goal
-
-abbrev pub invariant-records : goal.invariant-records
-invariant-records l = Walked l.sheet l.head.state l.head.action l.first l.index l.met
-
-abbrev pub decreases-records : goal.decreases-records
-decreases-records l = cond (eqb l.index 0) 0 (l.shape.records + 1 - l.index)

@@ -1,6 +1,6 @@
+ghost use Rattle.std.specs.Prelude.{refl};
 ghost use Rattle.modelsheet.specs.Says.{system_of};
 ghost use Rattle.modelsheet.specs.Systems.{system_sound};
-ghost use Rattle.std.proofs.Common.{rules, arith};
 
 use crate::model::Model;
 use environment::{Alphabet, Environment};
@@ -25,9 +25,9 @@ impl Environment for Model {
 
     ghost sound = { λ m. system_sound m };
 
-    ghost same_actions = { first_of (Prim.search rules, Prim.grind (arith, Self.row.coded.inj)) };
+    ghost same_actions = { λ _. refl };
 
-    ghost same_observations = { first_of (Prim.search rules, Prim.grind (arith, Self.row.coded.inj)) };
+    ghost same_observations = { λ _. refl };
 
     fn states(&self) -> u8 {
         self.states

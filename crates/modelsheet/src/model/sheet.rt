@@ -234,8 +234,8 @@ impl<'a> Sheet<'a> {
         ensures { Judged (judge_heads self.now (states_of self.now * actions_of self.now) 0) (HeadsRead self.now) result }
     {
         let mut leads = [StateSet::EMPTY; 512];
-        'heads: for k in 0..self.shape.heads() {
-            leads[k] = self.head(k)?;
+        'heads: for (k, lead) in leads[..self.shape.heads()].iter_mut().enumerate() {
+            *lead = self.head(k)?;
         }
         Ok(leads)
     }

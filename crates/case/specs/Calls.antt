@@ -1,5 +1,5 @@
 -- Which calls a case takes, and what each leaves it at.
-use Rattle.std.specs.Prelude.{◌≡◌, ℕ, ◌≤◌, Bool, true, false, cond, ◌&&◌, ◌||◌, List, replicate, Some, None, Ok, Err, Option, Result, MatchResult, ◌==◌, nat_le}
+use Rattle.std.specs.Prelude.{◌≡◌, ℕ, ◌≤◌, Bool, true, false, cond, ◌&&◌, ◌||◌, List, [], replicate, Some, None, Ok, Err, Option, Result, MatchResult, ◌==◌, nat_le}
 use Rattle.environment.specs.System.{System}
 use Rattle.refusals.specs.declared.Refusal.{Refusal}
 use Rattle.refusals.specs.declared.Refusal.TheVariants as refuse
@@ -98,7 +98,7 @@ module _ {E R : Type 0} where
     pub actions : after.walk.table.actions ≡ x.actions
     pub observations : after.walk.table.observations ≡ x.observations
     pub root : after.walk.table.entries ≡ replicate 64 Blank
-    pub fresh : after.walk.depth ≡ 0
+    pub fresh : after.walk.trail.items ≡ []
 
   -- what stays over an advance and a next: the table too has as many memories, over one alphabet
   pub record Kept (before after : Case E R) : Type 0 where

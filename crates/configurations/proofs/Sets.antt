@@ -125,4 +125,3 @@ one_less c m s x made n t = elim (cases_lt m (length c)) [
     | inr ne ↦ ap (λ (l : List ℕ). holds l n t) (set_past c m x far) ∙ sym (other_stays c m s n t ne)
   ]
 ]
-

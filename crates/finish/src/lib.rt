@@ -5,8 +5,8 @@ ghost use Rattle.std.specs.Prelude.{true, false, MatchBool};
 ghost use Rattle.picture.specs.declared.settling.Quorum.TheVariants.{Every, Any};
 ghost use Rattle.finish.specs.Rules.{Clean, RejectedBy, Spoilt};
 
-use picture::settling::Quorum;
 use picture::Picture;
+use picture::settling::Quorum;
 
 pub trait FinishRule {
     fn rejected(&self, picture: &Picture) -> bool;

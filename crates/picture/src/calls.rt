@@ -66,8 +66,8 @@ impl Picture {
     pub fn moving(&self) -> Configurations
         ensures { (m s : ℕ) → holds result m s ≡ is_moving self.now m s }
     {
-        self.reached
-            .without(&self.opened)
+        let filled = self.reached.without(&self.opened);
+        filled
             .without(&self.finished)
             .without(&self.missed)
             .without(&self.stuck)

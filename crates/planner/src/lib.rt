@@ -27,10 +27,8 @@ fn worst_steps<E: Environment, R: FinishRule>(case: &Case<E, R>) -> Option<u32>
     let mut loads = [0; 256];
     match case.worst(&Steps, &mut loads) {
         Ok(steps) => Some(steps),
-        Err(refusal) => match refusal {
-            Refusal::Cycle => None,
-            _ => unreachable(),
-        },
+        Err(Refusal::Cycle) => None,
+        Err(_) => unreachable(),
     }
 }
 
@@ -47,7 +45,7 @@ fn search<R: FinishRule + Drop>(model: Model, rule: R, bound: u8) -> Verdict
         return unreachable();
     }
     let mut judged = 0;
-    'advances: for turn in 0..ADVANCES {
+    'advances: for _ in 0..ADVANCES {
         let Ok(advance) = case.advance(AMOUNT) else {
             return unreachable();
         };

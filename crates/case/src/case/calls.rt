@@ -44,7 +44,7 @@ impl<E: Environment, R: FinishRule> Case<E, R> {
         if bound == 0 || bound > MOST_MEMORIES {
             return Err(Refusal::Bound);
         }
-        if self.environment.states() == 0 || self.environment.initial() == 0 {
+        if self.environment.states() == 0 || self.environment.initial().is_empty() {
             return Err(Refusal::NoStart);
         }
         Ok(())

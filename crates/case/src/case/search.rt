@@ -4,6 +4,7 @@ ghost use Rattle.case.specs.declared.case.Call.TheVariants.{Advance as advancing
 ghost use Rattle.case.specs.declared.case.Phase.TheVariants.{Searching};
 
 use crate::case::{Advance, Call, Case, Phase};
+use controller::place::Place;
 use environment::Environment;
 use finish::FinishRule;
 use refusals::Refusal;
@@ -33,8 +34,11 @@ impl<E: Environment, R: FinishRule> Case<E, R> {
         match self.picture.first_open() {
             None => self.phase = Phase::Found,
             Some(open) => {
-                let observation = self.environment.observation(open.state);
-                if !self.walk.descend(open.memory, observation) {
+                let entry = Place {
+                    memory: open.memory,
+                    observation: self.environment.observation(open.state),
+                };
+                if !self.walk.descend(entry) {
                     self.retreat();
                 }
             }
@@ -46,18 +50,18 @@ impl<E: Environment, R: FinishRule> Case<E, R> {
         ensures { MatchResult result (λ a. (refusal (E.Environment.meaning self.old.environment) self.old.phase (advancing amount) ≡ None) × Advanced (E.Environment.meaning self.old.environment) amount a self.old self.new) (λ e. (refusal (E.Environment.meaning self.old.environment) self.old.phase (advancing amount) ≡ Some e) × (self.new ≡ self.old)) }
     {
         self.admit(Call::Advance { amount })?;
-        let mut judged = 0;
-        while judged < amount {
+        for judged in 1..=amount {
             self.judge();
-            judged += 1;
-            match self.phase {
-                Phase::Searching => {}
-                phase => return Ok(Advance { phase, judged }),
+            if self.phase != Phase::Searching {
+                return Ok(Advance {
+                    phase: self.phase,
+                    judged,
+                });
             }
         }
         Ok(Advance {
-            phase: Phase::Searching,
-            judged,
+            phase: self.phase,
+            judged: amount,
         })
     }
 

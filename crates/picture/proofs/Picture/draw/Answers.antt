@@ -24,11 +24,11 @@ loop-at-preserved g c =
       | in-Moving w ↦
           rw w.marks-is
           (live_moves _ _ c.loop-at.self c.put.new.self c.loop-at.marks _ _ c.match-kind.kind c.loop-at.invariant here fresh c.put.ensures (w.kind-is ∙ sym w.in-Moving.is ∙ c.kind_of-kind.ensures.value)
-              w.in-Moving.next w.in-Moving.outcomes _ w.kind-is w.in-Moving.ensures.reached w.add-in-Moving.ensures)
+          w.in-Moving.next w.in-Moving.outcomes _ w.kind-is w.in-Moving.ensures.reached w.add-in-Moving.ensures)
       | in_default-kind w ↦
           rw w.marks-is
           (live_rests _ _ c.loop-at.self c.put.new.self c.loop-at.marks _ _ c.match-kind.kind c.loop-at.invariant here fresh c.put.ensures (w.kind-is ∙ c.kind_of-kind.ensures.value)
-              (λ n o e. w.in_default-kind.not-Moving n o (sym w.kind-is ∙ e)))
+          (λ n o e. w.in_default-kind.not-Moving n o (sym w.kind-is ∙ e)))
     ]
 
 pub returns : goal.returns

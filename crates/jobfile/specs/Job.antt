@@ -29,7 +29,7 @@ rule_byte Patient = 1
 
 -- A fault of the file itself.
 abbrev pub refused : Refusal → ℕ → Result Unit JobFault
-refused r at = Err (File r at)
+refused r at = Err (File (record { refusal = r; byte = at }))
 
 abbrev pub judge_rule : ℕ → Result Unit JobFault
 judge_rule byte = cond (nat_lt 1 byte) (refused refuse.Rule 1) (Ok tt)

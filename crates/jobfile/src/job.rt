@@ -1,11 +1,10 @@
-ghost use Rattle.jobfile.specs.Job.{JobRead, RuleRead};
+ghost use Rattle.std.specs.Prelude.{◌≡◌, Err};
+ghost use Rattle.jobfile.specs.Job.{JobRead, RuleRead, refused};
 
 use controller::table::MOST_MEMORIES;
-use faults::JobFault;
+use faults::{Fault, JobFault};
 use modelsheet::model::Model;
 use refusals::Refusal;
-
-const LEAST_LENGTH: usize = 2;
 
 // The finish rule that a job asks for.
 #[derive(Clone, Copy, Debug, PartialEq, Eq)]
@@ -22,18 +21,24 @@ pub struct Job {
     pub model: Model,
 }
 
-impl Rule {
-    // The rule of a rule byte.
-    fn read(byte: u8) -> Result<Rule, JobFault>
-        ensures { RuleRead byte result }
-    {
+// A fault of the file itself.
+fn file_fault(refusal: Refusal, byte: usize) -> JobFault
+    ensures { refused refusal byte ≡ Err result }
+{
+    JobFault::File(Fault { refusal, byte })
+}
+
+// The rule of a rule byte, which is byte 1 of a job file.
+impl TryFrom<u8> for Rule {
+    type Error = JobFault;
+
+    ghost try_from_gives = { RuleRead };
+
+    fn try_from(byte: u8) -> Result<Rule, JobFault> {
         match byte {
             0 => Ok(Rule::Strict),
             1 => Ok(Rule::Patient),
-            _ => Err(JobFault::File {
-                refusal: Refusal::Rule,
-                byte: 1,
-            }),
+            _ => Err(file_fault(Refusal::Rule, 1)),
         }
     }
 }
@@ -43,21 +48,18 @@ impl Job {
     pub fn read(file: &[u8]) -> Result<Job, JobFault>
         ensures { JobRead file.now result }
     {
-        if file.len() < LEAST_LENGTH {
-            return Err(JobFault::File {
-                refusal: Refusal::Length,
-                byte: file.len(),
-            });
+        let [bound, rule, sheet @ ..] = file else {
+            return Err(file_fault(Refusal::Length, file.len()));
+        };
+        if !(1..=MOST_MEMORIES).contains(bound) {
+            return Err(file_fault(Refusal::Bound, 0));
         }
-        let bound = file[0];
-        if bound == 0 || bound > MOST_MEMORIES {
-            return Err(JobFault::File {
-                refusal: Refusal::Bound,
-                byte: 0,
-            });
-        }
-        let rule = Rule::read(file[1])?;
-        let model = Model::read(&file[2..])?;
-        Ok(Job { bound, rule, model })
+        let rule = Rule::try_from(*rule)?;
+        let model = Model::read(sheet)?;
+        Ok(Job {
+            bound: *bound,
+            rule,
+            model,
+        })
     }
 }

@@ -3,3 +3,4 @@ pub mod Walks
 pub mod Whole
 pub mod Sights
 pub mod Heads
+pub mod LaidOut

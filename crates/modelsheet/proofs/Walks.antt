@@ -1,6 +1,7 @@
 -- The walk of a chain: what it has met, and what it has still to judge.
-use Rattle.std.proofs.Common.{◌≡◌, ℕ, zero, suc, ◌+◌, ◌-◌, ◌^◌, ◌<◌, ◌≤◌, Bool, true, false, cond, ◌||◌, eqb, ◌⊎◌, List, [], ◌∷◌, Ok, Err, sym, refl, ap, ◌∙◌, subst, inl, inr, ⊎_elim, arith}
+use Rattle.std.proofs.Common.{◌≡◌, ℕ, zero, suc, ◌+◌, ◌-◌, ◌^◌, ◌<◌, ◌≤◌, true, false, cond, ◌||◌, eqb, ◌⊎◌, List, [], ◌∷◌, Ok, Err, sym, refl, ap, ◌∙◌, subst, inl, inr, ⊎_elim, arith}
 use Rattle.std.proofs.lemmas.Bool.{ne_eqb, eq-eqb, eqb-false, cond_both, both_ways}
+use Rattle.std.proofs.Math.Bool.{or_comm}
 use Rattle.std.proofs.lemmas.Nat.{pow_pos}
 use Rattle.faults.specs.declared.ChainFault.{ChainFault}
 use Rattle.sets.specs.Mask.{has}
@@ -37,15 +38,9 @@ next_on b i t (here _ _ _ e) = inl e
 next_on b i t (later _ _ _ p) = inr p
 
 -- ---- sets
-or_turned : (x y : Bool) → (x || y) ≡ (y || x)
-or_turned true true = refl
-or_turned true false = refl
-or_turned false true = refl
-or_turned false false = refl
-
 -- a set with one more state, and the list of its states
 more_marks : (met n v now : ℕ) → n ≤ 64 → v < n → More met v now → (ts : List ℕ) → Marks met ts → Marks now (v ∷ ts)
-more_marks met n v now few low made ts m t = more-has met n v now few low made t ∙ ap (λ x. x || eqb v t) (m t) ∙ or_turned (elem t ts) (eqb v t)
+more_marks met n v now few low made ts m t = more-has met n v now few low made t ∙ ap (λ x. x || eqb v t) (m t) ∙ or_comm (elem t ts) (eqb v t)
 
 -- ---- the walk
 pub start : (b : List ℕ) (s a first : ℕ) → first ≤ records_of b → Walked b s a first first 0

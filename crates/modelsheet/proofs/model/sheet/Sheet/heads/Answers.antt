@@ -1,20 +1,20 @@
-use Rattle.std.proofs.Common.{◌≡◌, ℕ, ◌-◌, ◌*◌, ◌^◌, ◌<◌, ◌≤◌, List, length, Decides, sym, ap, ◌∙◌, subst, ap₂, arith}
+use Rattle.std.proofs.Common.{◌≡◌, ◌-◌, ◌*◌, ◌<◌, ◌≤◌, length, sym, ap, ◌∙◌, ap₂, arith}
 use native.Mathlib.Nat.{sub-zero}
+use Rattle.std.proofs.lemmas.Grind.{common_steps}
 use Rattle.std.proofs.lemmas.Nat.{mul-le}
 use Rattle.std.proofs.lemmas.List.{length-set, length-take}
 use Rattle.std.proofs.lemmas.Result.{err_from_is_err_and}
-use Rattle.sets.specs.Mask.{has}
 use Rattle.sets.proofs.Arrays.{zeros}
 use Rattle.modelsheet.specs.Judge.{judge_heads}
-use Rattle.modelsheet.specs.Laid.{Laid}
-use Rattle.modelsheet.specs.Sheet.{states_of, actions_of, head_of, OnChain}
-use Rattle.modelsheet.proofs.Heads.{head_refused, head_passed, below_write, all_write, begun, heads_read}
+use Rattle.modelsheet.specs.Sheet.{states_of, actions_of}
+use Rattle.modelsheet.proofs.Heads.{head_refused, head_passed, begun, heads_read}
+use Rattle.modelsheet.proofs.LaidOut.{laid_out}
 use Rattle.modelsheet.proofs.model.sheet.Sheet.heads.Goals as goal
 
 pub heads-init : goal.heads-init
 heads-init c =
     let b = c.args.self.now in
-    let laid = subst (λ (l : List ℕ). Laid l c.self.inside.shape) c.self.view_is c.self.invariant in
+    let laid = laid_out c.self.view_is c.self.invariant in
     let e : c.heads-2.result ≡ states_of b * actions_of b = c.heads-2.ensures ∙ ap₂ ◌*◌ laid.states_are laid.actions_are in
     let all : states_of b * actions_of b ≤ 64 * 8 = mul-le (states_of b) (actions_of b) 64 8 laid.few_states laid.few_actions in
     record {
@@ -43,8 +43,8 @@ heads-preserved c =
     record {
       many = length-set c.heads.lead-items k v ∙ w.many;
       judged = sym (head_passed b (states_of b * actions_of b) k (omega arith) q.0) ∙ w.judged;
-      chains = below_write (λ j x. (t : ℕ) → Decides (has x t) (OnChain b (head_of b j) t)) c.heads.lead-items k v few q.1.targets w.chains;
-      chains_in = all_write (λ j x. x < 2 ^ states_of b) c.heads.lead-items k v few q.1.targets_in w.chains_in;
+      chains = λ j h t. grind (arith, common_steps, w.chains j, q.1.targets t);
+      chains_in = λ j. grind (arith, common_steps, w.chains_in j, q.1.targets_in);
     }
 
 pub returns : goal.returns

@@ -12,4 +12,3 @@ invariant_of-result-4 c = record {
   seen = λ s h. absurd (omega arith);
   led = λ k. subst (λ (x : ℕ). x < 2 ^ 0) (sym (zeros 512 k)) (lit< tt);
 }
-

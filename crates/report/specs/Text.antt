@@ -22,6 +22,10 @@ entry_line m o Stop = decimal m ++ (codes " " ++ (decimal o ++ (codes " stop" ++
 entry_line m o (Move a n) =
     decimal m ++ (codes " " ++ (decimal o ++ (codes " " ++ (decimal a ++ (codes " " ++ (decimal n ++ (10 ∷ [])))))))
 
+-- The line of a table's entry (m, o).
+abbrev pub entry_text : Table → ℕ → ℕ → List ℕ
+entry_text t m o = entry_line m o (entry_at t m o)
+
 -- f 0, f 1 and so on to f (n - 1), one after another.
 unfoldable pub each : ℕ → (ℕ → List ℕ) → List ℕ
 each zero f = []
@@ -29,7 +33,7 @@ each (suc n) f = each n f ++ f n
 
 -- The lines of memory m, by observation; the lines of the table, by memory.
 abbrev pub row_lines : Table → ℕ → List ℕ
-row_lines t m = each t.observations (λ o. entry_line m o (entry_at t m o))
+row_lines t m = each t.observations (entry_text t m)
 
 abbrev pub table_lines : Table → List ℕ
 table_lines t = each t.memories (row_lines t)

@@ -2,7 +2,7 @@
 #![tactic(auto)]
 
 ghost use Rattle.std.specs.Prelude.{◌≡◌, IfOk, Some, string_bytes};
-ghost use Rattle.report.specs.Text.{entry_line, row_lines, table_lines, worst_line, fault_line, report_text};
+ghost use Rattle.report.specs.Text.{entry_text, row_lines, table_lines, worst_line, fault_line, report_text};
 
 use controller::entry::Entry;
 use controller::place::Place;
@@ -31,22 +31,22 @@ pub enum Verdict {
     Refused(JobFault),
 }
 
-// The line of one entry; a blank one has no line.
+// The line of the entry at a place; a blank one has no line.
 #[derive(Clone, Copy)]
-struct EntryLine {
+struct EntryLine<'a> {
+    table: &'a Table,
     at: Place,
-    entry: Entry,
 }
 
-impl fmt::Display for EntryLine {
-    ghost output = { λ l. Some (entry_line l.at.memory l.at.observation l.entry) };
+impl fmt::Display for EntryLine<'_> {
+    ghost output = { λ l. Some (entry_text l.table.now l.at.memory l.at.observation) };
 
     fn fmt<W: fmt::Write>(&self, f: &mut fmt::Formatter<W>) -> fmt::Result {
         let Place {
             memory,
             observation,
         } = self.at;
-        match self.entry {
+        match self.table.entry(self.at) {
             Entry::Blank => Ok(()),
             Entry::Stop => writeln!(f, "{memory} {observation} stop"),
             Entry::Move { action, next } => writeln!(f, "{memory} {observation} {action} {next}"),
@@ -64,16 +64,15 @@ struct RowLines<'a> {
 impl fmt::Display for RowLines<'_> {
     ghost output = { λ l. Some (row_lines l.table.now l.memory) };
 
+    #[tactic(auto, using(crate::proofs::Turns::start, crate::proofs::Turns::turn))]
     fn fmt<W: fmt::Write>(&self, f: &mut fmt::Formatter<W>) -> fmt::Result {
-        for observation in 0..self.table.observations() {
+        let RowLines { table, memory } = *self;
+        for observation in 0..table.observations() {
             let at = Place {
-                memory: self.memory,
+                memory,
                 observation,
             };
-            let line = EntryLine {
-                at,
-                entry: self.table.entry(at),
-            };
+            let line = EntryLine { table, at };
             write!(f, "{line}")?;
         }
         Ok(())
@@ -87,6 +86,7 @@ struct TableLines<'a>(&'a Table);
 impl fmt::Display for TableLines<'_> {
     ghost output = { λ l. Some (table_lines l.0.now) };
 
+    #[tactic(auto, using(crate::proofs::Turns::start, crate::proofs::Turns::turn))]
     fn fmt<W: fmt::Write>(&self, f: &mut fmt::Formatter<W>) -> fmt::Result {
         let table = self.0;
         for memory in 0..table.memories() {

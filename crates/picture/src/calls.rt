@@ -106,6 +106,6 @@ impl Picture {
     pub fn first_open(&self) -> Option<Configuration>
         ensures { MatchOption result ((m s : ℕ) → is_open self.now m s ≡ false) (λ c. FirstOpen self.now c) }
     {
-        self.opened.first()
+        self.open().first()
     }
 }

@@ -1,10 +1,13 @@
 // Runs many job files: each line of standard input is one, in hexadecimal, and its report is printed, with an empty line after it.
 #![tactic(auto)]
 
-ghost use Rattle.std.specs.Prelude.{◌<◌, ◌≤◌, length, IfOk};
+ghost use Rattle.std.specs.Prelude.{◌<◌, IfOk};
 
 use anyhow::anyhow;
 use std::alloc::Global;
+
+// So many bytes of a line are read, at most, as of a job file.
+const MOST_BYTES: usize = 4096;
 
 fn digit(byte: u8) -> anyhow::Result<u8>
     ensures { IfOk result (λ d. d < 16) }
@@ -16,25 +19,19 @@ fn digit(byte: u8) -> anyhow::Result<u8>
     }
 }
 
-// Decodes as much of a line as the buffer holds; answers how many bytes that is.
-fn decode(line: &[u8], file: &mut [u8]) -> anyhow::Result<usize>
-    ensures { IfOk result (λ n. n ≤ length file.new) }
-{
-    let length = (line.len() / 2).min(file.len());
-    for k in 0..length {
-        let high = digit(line[2 * k])?;
-        let low = digit(line[2 * k + 1])?;
-        file[k] = high * 16 + low;
+// The bytes of a line of hexadecimal digits, two for each.
+fn decode(heap: Global, line: &str) -> anyhow::Result<Vec<u8>> {
+    let mut file = Vec::new(heap);
+    for pair in line.as_bytes().chunks_exact(2).take(MOST_BYTES) {
+        file.push(digit(pair[0])? * 16 + digit(pair[1])?)?;
     }
-    Ok(length)
+    Ok(file)
 }
 
 // The report of one job file.
 fn answer(heap: Global, line: &str) -> anyhow::Result<String> {
-    let mut file = [0u8; 4096];
-    let length = decode(line.as_bytes(), &mut file)?;
-    let verdict = planner::solve(&file[0..length]);
-    Ok(report::report(heap, &verdict)?)
+    let file = decode(heap, line)?;
+    Ok(report::report(heap, &planner::solve(&file))?)
 }
 
 fn main(rt: HostRuntime) -> anyhow::Result<()> {

@@ -19,11 +19,11 @@ const HEADER: usize = 21;
 
 // The counts of a sheet's header.
 #[derive(Clone, Copy)]
-pub struct Shape {
-    pub states: u8,
-    pub actions: u8,
-    pub observations: u8,
-    pub records: u8,
+pub(super) struct Shape {
+    pub(super) states: u8,
+    pub(super) actions: u8,
+    pub(super) observations: u8,
+    pub(super) records: u8,
 }
 
 impl Shape {
@@ -83,9 +83,9 @@ fn chain_fault(head: Head, refusal: Refusal, byte: usize) -> ChainFault
 
 // The sets of states that a sheet names.
 #[derive(Clone, Copy)]
-pub struct Sets {
-    pub initial: StateSet,
-    pub goal: StateSet,
+pub(super) struct Sets {
+    pub(super) initial: StateSet,
+    pub(super) goal: StateSet,
 }
 
 // A record: its target, and the index of the record that follows it.
@@ -97,9 +97,9 @@ struct Record {
 
 // A sheet whose header is right and which is as long as its counts lay down. A clause sees its bytes.
 #[derive(Drop)]
-pub struct Sheet<'a> {
+pub(super) struct Sheet<'a> {
     bytes: &'a [u8],
-    pub shape: Shape,
+    pub(super) shape: Shape,
 }
 
 impl<'a> Model for Sheet<'a> {
@@ -112,7 +112,7 @@ impl<'a> Model for Sheet<'a> {
 
 impl<'a> Sheet<'a> {
     // Judges the header and the length.
-    pub fn lay(bytes: &'a [u8]) -> Result<Sheet<'a>, SheetFault>
+    pub(super) fn lay(bytes: &'a [u8]) -> Result<Sheet<'a>, SheetFault>
         ensures { Judged (judge_header bytes.now) (λ sheet. sheet ≡ bytes.now) result }
     {
         if bytes.len() < HEADER {
@@ -143,7 +143,7 @@ impl<'a> Sheet<'a> {
     }
 
     // The initial set, which is not empty, and the goal set.
-    pub fn sets(&self) -> Result<Sets, SheetFault>
+    pub(super) fn sets(&self) -> Result<Sets, SheetFault>
         ensures { Judged (judge_sets self.now) (SetsRead self.now) result }
     {
         let initial = StateSet::from(word_at(self.bytes, INITIAL));
@@ -158,7 +158,7 @@ impl<'a> Sheet<'a> {
     }
 
     // The observation of each state.
-    pub fn sights(&self) -> Result<[u8; 64], SheetFault>
+    pub(super) fn sights(&self) -> Result<[u8; 64], SheetFault>
         ensures { Judged (judge_sights self.now (states_of self.now) 0) (SightsRead self.now) result }
     {
         let sights = &self.bytes[HEADER..self.shape.first_head()];
@@ -171,7 +171,8 @@ impl<'a> Sheet<'a> {
         Ok(seen)
     }
 
-    // A record on the chain of a head, where `met` holds the targets of the records before it.
+    // A record on the chain of a head, where `met` holds the targets of the records before it. The states of a sheet are few enough for a
+    // set to hold any target.
     fn record(&self, head: Head, met: StateSet, index: u8) -> Result<Record, ChainFault>
         requires some { 1 ≤ index }
         requires within { index ≤ records_of self.now }
@@ -230,7 +231,7 @@ impl<'a> Sheet<'a> {
     }
 
     // The outcome sets of all states and actions, in the order of their heads.
-    pub fn heads(&self) -> Result<[StateSet; 512], ChainFault>
+    pub(super) fn heads(&self) -> Result<[StateSet; 512], ChainFault>
         ensures { Judged (judge_heads self.now (states_of self.now * actions_of self.now) 0) (HeadsRead self.now) result }
     {
         let mut leads = [StateSet::EMPTY; 512];

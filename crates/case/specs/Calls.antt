@@ -71,6 +71,12 @@ module _ {E R : Type 0} where
   abbrev pub found_table : Case E R → Option Table
   found_table c = if_found c.phase c.walk.table
 
+  -- What a call answers: it is taken where nothing refuses it, and then does what it is to do; a refused call answers the very refusal, and
+  -- leaves the very same case.
+  abbrev pub Answers : {A : Type 0} → System → Call → (A → Case E R → Case E R → Type 0) → Case E R → Case E R → Result A Refusal → Type 0
+  Answers x call does before after r =
+      MatchResult r (λ a. (refusal x before.phase call ≡ None) × does a before after) (λ e. (refusal x before.phase call ≡ Some e) × (after ≡ before))
+
   -- a new case, with nothing barred
   pub record Fresh (environment : E) (rule : R) (c : Case E R) : Type 0 where
     pub same_environment : c.environment ≡ environment

@@ -1,5 +1,5 @@
-ghost use Rattle.std.specs.Prelude.{◌≡◌, MatchResult};
-ghost use Rattle.case.specs.Calls.{admitted, refusal, Barred, Begun, Fresh};
+ghost use Rattle.std.specs.Prelude.{◌≡◌};
+ghost use Rattle.case.specs.Calls.{admitted, refusal, Answers, Barred, Begun, Fresh};
 ghost use Rattle.case.specs.declared.case.Call.TheVariants.{Bar as barring, Begin as beginning};
 ghost use Rattle.case.specs.declared.case.Phase.TheVariants.{New};
 
@@ -80,8 +80,7 @@ impl<E: Environment, R: FinishRule> Case<E, R> {
 
     // Bars an action at an observation, while the case is new; it may be barred already.
     pub fn bar(&mut self, observation: u8, action: u8) -> Result<(), Refusal>
-        ensures answer { result ≡ admitted (refusal (E.Environment.meaning self.old.environment) self.old.phase (barring observation action)) }
-        ensures effect { MatchResult result (λ _. Barred observation action self.old self.new) (λ _. self.new ≡ self.old) }
+        ensures { Answers (E.Environment.meaning self.old.environment) (barring observation action) (λ _. Barred observation action) self.old self.new result }
     {
         self.admit(Call::Bar {
             observation,
@@ -93,8 +92,7 @@ impl<E: Environment, R: FinishRule> Case<E, R> {
 
     // Makes a new case searching at the root, for controllers of at most `bound` memories.
     pub fn begin(&mut self, bound: u8) -> Result<(), Refusal>
-        ensures answer { result ≡ admitted (refusal (E.Environment.meaning self.old.environment) self.old.phase (beginning bound)) }
-        ensures effect { MatchResult result (λ _. Begun (E.Environment.meaning self.old.environment) bound self.old self.new) (λ _. self.new ≡ self.old) }
+        ensures { Answers (E.Environment.meaning self.old.environment) (beginning bound) (λ _. Begun (E.Environment.meaning self.old.environment) bound) self.old self.new result }
     {
         self.admit(Call::Begin { bound })?;
         let actions = self.environment.actions();

@@ -1,5 +1,5 @@
-ghost use Rattle.std.specs.Prelude.{◌≡◌, Some, None, MatchResult};
-ghost use Rattle.case.specs.Calls.{refusal, Advanced, Stepped, Left, Retreated};
+ghost use Rattle.std.specs.Prelude.{◌≡◌};
+ghost use Rattle.case.specs.Calls.{Answers, Advanced, Stepped, Left, Retreated};
 ghost use Rattle.case.specs.declared.case.Call.TheVariants.{Advance as advancing, Next as leaving};
 ghost use Rattle.case.specs.declared.case.Phase.TheVariants.{Searching};
 
@@ -47,7 +47,7 @@ impl<E: Environment, R: FinishRule> Case<E, R> {
 
     // Judges tables in the order of the tree: up to one that meets the rule, or to the last one, or as many as the amount.
     pub fn advance(&mut self, amount: u32) -> Result<Advance, Refusal>
-        ensures { MatchResult result (λ a. (refusal (E.Environment.meaning self.old.environment) self.old.phase (advancing amount) ≡ None) × Advanced (E.Environment.meaning self.old.environment) amount a self.old self.new) (λ e. (refusal (E.Environment.meaning self.old.environment) self.old.phase (advancing amount) ≡ Some e) × (self.new ≡ self.old)) }
+        ensures { Answers (E.Environment.meaning self.old.environment) (advancing amount) (λ a. Advanced (E.Environment.meaning self.old.environment) amount a) self.old self.new result }
     {
         self.admit(Call::Advance { amount })?;
         for judged in 1..=amount {
@@ -67,7 +67,7 @@ impl<E: Environment, R: FinishRule> Case<E, R> {
 
     // Leaves a found table for the one after it in the order, which is not judged yet.
     pub fn next(&mut self) -> Result<Phase, Refusal>
-        ensures { MatchResult result (λ p. (refusal (E.Environment.meaning self.old.environment) self.old.phase leaving ≡ None) × Left p self.old self.new) (λ e. (refusal (E.Environment.meaning self.old.environment) self.old.phase leaving ≡ Some e) × (self.new ≡ self.old)) }
+        ensures { Answers (E.Environment.meaning self.old.environment) leaving Left self.old self.new result }
     {
         self.admit(Call::Next)?;
         self.retreat();

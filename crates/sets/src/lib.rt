@@ -144,6 +144,7 @@ impl StateSet {
     }
 
     // The set with each of its states moved up by so many; those that come past 63 are gone.
+    #[tactic(auto, using(crate::proofs::Shifts::has_shl))]
     pub fn moved_up(self, by: u8) -> StateSet
         ensures { (t : ℕ) → has result t ≡ (nat_lt t 64 && nat_le by t && has self (t - by)) }
     {

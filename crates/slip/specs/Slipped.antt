@@ -2,14 +2,14 @@
 -- Lemmas alone, which the proof of a law rests on; no contract speaks of them.
 use Rattle.std.specs.Prelude.{◌≡◌, ℕ, ◌<◌, Bool, true, false, ◌&&◌, ◌||◌, ltb, ◌==◌, ◌≢◌, nat_lt, refl}
 use Rattle.std.proofs.Common.{sym, ap, ◌∙◌, inl, inr, arith}
-use Rattle.std.proofs.lemmas.Bool.{cases_Bool, both_ways, eq-eqb, ne_eqb, eqb-true, eqb-false, lt-ltb, and_left, and_from, or_right, not-true, not-false, not_from_true, not_from_false}
+use Rattle.std.proofs.lemmas.Bool.{cases_Bool, cases_eq, both_ways, eq-eqb, ne_eqb, eqb-true, eqb-false, lt-ltb, and_left, and_from, or_right, not-true, not-false, not_from_true, not_from_false}
 use Rattle.sets.specs.Mask.{has}
-use Rattle.sets.proofs.Bits.{has_none}
+use Rattle.sets.proofs.Bits.{has_none, same_set}
 use Rattle.sets.proofs.More.{More, more-has}
 use Rattle.sets.proofs.Chosen.{chosen-lt, has_chosen, is_chosen, none_chosen, within_chosen}
 use Rattle.environment.specs.System.{System, Sound, is_legal}
 use Rattle.environment.proofs.Systems.{leads_from}
-use Rattle.slip.specs.Slips.{slips_to, slip, LegalAsBelow}
+use Rattle.slip.specs.Slips.{slips_to, slip, Slips, LegalAsBelow}
 
 module _ (x : System) (law : Sound x) (s a : ℕ) where
   -- an action that is not legal leads nowhere
@@ -17,8 +17,8 @@ module _ (x : System) (law : Sound x) (s a : ℕ) where
   still e = none_chosen x.states (slips_to x s a) (λ t h. and_left (is_legal x s a) _ (not_from_true _ (eq-eqb (x.outcomes s a) 0 e)))
 
   -- a legal one leads to the outcomes below, and to the state itself
-  pub slips : (o r : ℕ) → o ≡ x.outcomes s a → (o ≢ 0) → More o s r → r ≡ (slip x).outcomes s a
-  slips o r e some made = is_chosen r x.states (slips_to x s a) by
+  moves : (o r : ℕ) → o ≡ x.outcomes s a → (o ≢ 0) → More o s r → r ≡ (slip x).outcomes s a
+  moves o r e some made = is_chosen r x.states (slips_to x s a) by
     where
       ok : is_legal x s a ≡ true
       ok = not_from_false _ (ne_eqb (x.outcomes s a) 0 (λ z. some (e ∙ z)))
@@ -42,6 +42,12 @@ module _ (x : System) (law : Sound x) (s a : ℕ) where
       by t =
           more-has o x.states s r law.few_states here made t ∙ ap (λ (n : ℕ). has n t || s == t) e
           ∙ within t ∙ ap (λ b. nat_lt t x.states && (b && (has (x.outcomes s a) t || s == t))) (sym ok)
+
+  pub slips : (o r : ℕ) → o ≡ x.outcomes s a → Slips o s r → r ≡ (slip x).outcomes s a
+  slips o r e made = elim (cases_eq o 0) [
+    | inl z ↦ same_set r 0 (λ t. made t ∙ rw (eq-eqb o 0 z) (sym (has_none t))) ∙ sym (still (sym e ∙ z))
+    | inr some ↦ moves o r e some (λ t. made t ∙ rw (ne_eqb o 0 some) refl)
+  ]
 
 pub slip_sound : (x : System) → Sound x → Sound (slip x)
 slip_sound x law = record {

@@ -3,7 +3,7 @@
 
 ghost use Rattle.std.specs.Prelude.{◌≡◌};
 ghost use Rattle.environment.specs.System.{System, Sound};
-ghost use Rattle.slip.specs.Slips.{slip as slipping, LegalAsBelow};
+ghost use Rattle.slip.specs.Slips.{slip as slipping, Slips, LegalAsBelow};
 ghost use Rattle.slip.specs.Slipped.{slip_sound};
 ghost use Rattle.std.proofs.Common.{rules};
 
@@ -14,6 +14,17 @@ use sets::StateSet;
 #[derive(Clone, Copy, Debug, Drop, PartialEq, Eq)]
 pub struct Slip<E> {
     below: E,
+}
+
+// The outcomes with the state itself, if there are any.
+fn slipped(outcomes: StateSet, state: u8) -> StateSet
+    ensures { Slips outcomes state result }
+{
+    if outcomes.is_empty() {
+        outcomes
+    } else {
+        outcomes.with(state)
+    }
 }
 
 impl<E: Environment> Slip<E> {
@@ -65,12 +76,7 @@ impl<E: Environment> Environment for Slip<E> {
     }
 
     fn outcomes(&self, state: u8, action: u8) -> StateSet {
-        let outcomes = self.below.outcomes(state, action);
-        if outcomes.is_empty() {
-            outcomes
-        } else {
-            outcomes.with(state)
-        }
+        slipped(self.below.outcomes(state, action), state)
     }
 }
 

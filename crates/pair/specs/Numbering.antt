@@ -69,7 +69,7 @@ together c d =
     && (not (counts_nothing d) && (nat_le (c.actions + d.actions) 8 && (nat_le (c.observations * d.observations) 16 && nat_le (c.states * d.states) 64)))
 
 abbrev pub none : Counts
-none = record { actions = 0; observations = 0; states = 0; few_actions = zero-le; few_observations = zero-le; few_states = zero-le; seen = λ none. none }
+none = record { actions = 0; observations = 0; states = 0; few_actions = zero-le; few_observations = zero-le; few_states = zero-le; seen = λ h. h }
 
 pub record Shaped (c d first second : Counts) : Type 0 where
   pub first_is : first ≡ cond (together c d) c none

@@ -61,6 +61,7 @@ module _ (c d : Counts) (x y : System) where
       omega (arith, mul-add-lt o1 d.observations o2 c.observations (ltb-true _ _ h.0) (ltb-true _ _ h.1), mul_comm c.observations d.observations))
       (λ _. some)
 
+-- a pair by any shape is a sound system
 pub by_shape_sound : (k : Shape) (x y : System) → Sound (by_shape k x y)
 by_shape_sound k x y = record {
   few_actions = k.able;
@@ -88,10 +89,11 @@ none_joined x y =
     same_system (joined none none x y) empty refl refl refl refl refl (λ s. ap (seen_in none none x y) (no_state none none x y s (omega arith)))
     (λ s a. ap (led_from none none x y (mover_of none none a)) (no_state none none x y s (omega arith)))
 
--- the counts of a sound system
+-- where a sound system has a state, it has an observation
 state_seen : (x : System) → Sound x → 0 < x.states → 0 < x.observations
 state_seen x law h = omega (arith, law.observation_in 0 h)
 
+-- the counts of a sound system
 abbrev counts_of : (x : System) → Sound x → Counts
 counts_of x law = record {
   actions = x.actions;
@@ -103,6 +105,7 @@ counts_of x law = record {
   seen = state_seen x law;
 }
 
+-- counts that are the system's are these
 counts_are : (x : System) (law : Sound x) (c : Counts) → AreCounts x c → c ≡ counts_of x law
 counts_are x law c h = λ i. record {
   actions = h.actions_are i;

@@ -1,15 +1,15 @@
 ghost use Rattle.std.specs.Prelude.{◌≡◌, ℕ, List, length};
-ghost use Rattle.std.specs.Iterator.{at_most};
 
+use crate::MEMORIES;
 use sets::StateSet;
 use std::marker::Model;
 
 mod calls;
 
 // A set of configurations: for each memory a set of states. A clause sees the list of their masks.
-#[derive(Clone, Copy, Debug)]
+#[derive(Clone, Copy, Debug, PartialEq, Eq)]
 pub struct Configurations {
-    states: [StateSet; 4],
+    states: [StateSet; MEMORIES],
 }
 
 impl Model for Configurations {

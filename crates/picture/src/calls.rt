@@ -3,7 +3,7 @@ ghost use Rattle.configurations.specs.Holds.{holds};
 ghost use Rattle.picture.specs.Kinds.{kind_at, step_at, is_open, is_moving, FirstOpen};
 ghost use Rattle.picture.specs.declared.Kind.TheVariants.{NotReached};
 
-use crate::{Configuration, Configurations, Kind, Picture, STATES, Step};
+use crate::{Configuration, Configurations, Kind, PLACES, Picture, STATES, Step};
 use sets::StateSet;
 
 // Where the step of a configuration stands.
@@ -27,7 +27,7 @@ impl Picture {
             steps: [Step {
                 next: 0,
                 outcomes: StateSet::EMPTY,
-            }; 256],
+            }; PLACES],
         }
     }
 

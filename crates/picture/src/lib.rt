@@ -12,6 +12,9 @@ pub mod settling;
 pub use configurations::{Configuration, Configurations, MEMORIES, STATES};
 use sets::StateSet;
 
+// So many places there are for steps, one for each configuration.
+const PLACES: usize = MEMORIES * STATES;
+
 #[derive(Clone, Copy, Debug, PartialEq, Eq)]
 pub enum Kind {
     // No run comes here.
@@ -45,7 +48,7 @@ pub struct Picture {
     finished: Configurations,
     missed: Configurations,
     stuck: Configurations,
-    steps: [Step; 256],
+    steps: [Step; PLACES],
     // Each configuration has one kind.
     ghost parted: { (m s : ℕ) → one_kind (holds reached m s) (holds opened m s) (holds finished m s) (holds missed m s) (holds stuck m s) ≡ true },
     // There are four memories and 64 states.

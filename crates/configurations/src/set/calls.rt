@@ -13,7 +13,7 @@ impl Configurations {
         ensures { Nothing result }
     {
         Configurations {
-            states: [StateSet::EMPTY; 4],
+            states: [StateSet::EMPTY; MEMORIES],
         }
     }
 

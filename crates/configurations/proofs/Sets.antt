@@ -1,14 +1,14 @@
 -- Laws of sets of configurations: what is in one of which a memory's set of states is exchanged, and that a set of fewer weighs less.
-use Rattle.std.proofs.Common.{◌≡◌, ℕ, zero, suc, ◌+◌, ◌*◌, ◌^◌, ◌<◌, ◌≤◌, ◌⊎◌, Bool, true, false, not, ◌&&◌, ◌||◌, eqb, ltb, List, [], ◌∷◌, length, get_or, set, sym, refl, ap, ◌∙◌, subst, subst₂, inl, inr, arith}
+use Rattle.std.proofs.Common.{◌≡◌, ℕ, zero, suc, ◌*◌, ◌^◌, ◌<◌, ◌≤◌, ◌⊎◌, Bool, true, false, not, ◌&&◌, eqb, ltb, List, [], ◌∷◌, length, get_or, set, sym, refl, ap, ◌∙◌, subst, inl, inr, arith}
 use lib.Bits.{bit_and, and_le_r}
-use mathlib.Core.Bool.{and-true, or-false}
-use Rattle.std.proofs.lemmas.Bool.{cases_Bool, cases_eq, cases_lt, both_ways, eq-eqb, ne_eqb, lt-ltb, le-ltb, and_left, and_right, and_from, and_parts, eqb-true, not_from_false}
+use mathlib.Core.Bool.{and-true}
+use Rattle.std.proofs.lemmas.Bool.{cases_Bool, cases_eq, cases_lt, both_ways, eq-eqb, ne_eqb, lt-ltb, and_left, and_right, and_from, and_parts, eqb-true, not_from_false}
 use Rattle.std.proofs.lemmas.List.{get_or-set_same, get_or-set_other, get_or_past, set_past}
 use Rattle.sets.specs.Mask.{has}
 use Rattle.sets.proofs.Arrays.{zeros}
 use Rattle.sets.proofs.Bits.{has-and, same_set}
 use Rattle.sets.proofs.Chosen.{chosen_within}
-use Rattle.sets.proofs.Members.{has_empty, cleared}
+use Rattle.sets.proofs.Members.{has_empty}
 use Rattle.configurations.specs.Holds.{holds, same, Nothing, Less, weight}
 
 -- four empty sets of states hold nothing
@@ -18,9 +18,6 @@ none_held m s = has_empty (get_or (0 ∷ 0 ∷ 0 ∷ 0 ∷ []) m 0) s (zeros 4 m
 -- nothing is held past the last memory
 pub held_past : (c : List ℕ) (m s : ℕ) → length c ≤ m → holds c m s ≡ false
 held_past c m s far = has_empty (get_or c m 0) s (get_or_past c m 0 far)
-
-pub held_in : (c : List ℕ) (m s : ℕ) → holds c m s ≡ true → m < length c
-held_in c m s h = elim (cases_lt m (length c)) [ inl p ↦ p | inr q ↦ absurd (both_ways _ (held_past c m s q) h) ]
 
 -- the set of memory i is exchanged for y
 module _ (c : List ℕ) (i y : ℕ) (lt : i < length c) where

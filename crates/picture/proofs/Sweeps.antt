@@ -1,7 +1,7 @@
 -- What it does to the waiting configurations that one of them waits no more.
 use Rattle.std.specs.Prelude.{MatchBool}
-use Rattle.std.proofs.Common.{◌≡◌, ℕ, Bool, true, false, not, ◌&&◌, eqb, ◌⊎◌, List, get_or, sym, refl, ap, ◌∙◌, subst, subst₂, inl, inr}
-use Rattle.std.proofs.lemmas.Bool.{cases_Bool, both_ways, eqb-true, and_parts, and_from, not_from_false, not-true}
+use Rattle.std.proofs.Common.{◌≡◌, ℕ, Bool, true, false, not, ◌&&◌, List, get_or, sym, refl, ◌∙◌, subst, subst₂, inl, inr}
+use Rattle.std.proofs.lemmas.Bool.{cases_Bool, both_ways, and_parts, and_from, not_from_false, not-true}
 use Rattle.sets.specs.Mask.{has}
 use Rattle.sets.proofs.Members.{has_empty, some_state}
 use Rattle.configurations.specs.Holds.{holds, Less, Nothing, Something}
@@ -29,10 +29,6 @@ module _ (p : Picture) (c : List ℕ) (moves : (m s : ℕ) → holds c m s ≡ t
 pub none_waits : (c : List ℕ) (r : Bool) → MatchBool r (Nothing c) (Something c) → ((m s : ℕ) → holds c m s ≡ true → ⊥) → r ≡ true
 none_waits c true h none = refl
 none_waits c false h none = absurd (none h.0 h.1 h.2)
-
--- nothing was taken out yet
-pub swept_none : (d : Quorum) (p : Picture) (c : List ℕ) → Swept d p c c
-swept_none d p c = record { fewer = λ m s h. h; sound = λ all. all }
 
 -- one more was taken out
 pub swept_more : (d : Quorum) (p : Picture) (x b a : List ℕ) (m s : ℕ) → Swept d p x b → Less m s b a → Met d (outcomes_of p m s) (get_or b (next_of p m s) 0) → Swept d p x a

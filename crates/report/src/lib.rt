@@ -168,7 +168,7 @@ pub fn report(heap: Global, verdict: &Verdict) -> Result<String, AllocError>
 #[cfg(test)]
 mod tests {
     use super::*;
-    use faults::{ChainFault, SheetFault};
+    use faults::{ChainFault, Fault, Head, SheetFault};
     use refusals::Refusal;
     use std::test::Fail;
 
@@ -215,10 +215,14 @@ mod tests {
     #[test]
     fn a_fault_in_a_chain_names_its_state_and_action(rt: HostRuntime) -> Result<(), Fail> {
         let fault = ChainFault {
-            refusal: Refusal::NotRising,
-            byte: 34,
-            state: 0,
-            action: 1,
+            fault: Fault {
+                refusal: Refusal::NotRising,
+                byte: 34,
+            },
+            head: Head {
+                state: 0,
+                action: 1,
+            },
         };
         let text = report(
             rt.alloc(),
@@ -228,10 +232,10 @@ mod tests {
             text.as_str(),
             "refused 7 layer 1 byte 34 state 0 action 1\n"
         );
-        let file = JobFault::File {
+        let file = JobFault::File(Fault {
             refusal: Refusal::Bound,
             byte: 0,
-        };
+        });
         let short = report(rt.alloc(), &Verdict::Refused(file))?;
         assert_eq!(rt; short.as_str(), "refused 10 layer 3 byte 0\n");
         Ok(())

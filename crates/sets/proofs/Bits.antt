@@ -1,9 +1,9 @@
 -- The laws of bits: what is in a union, an intersection, a complement and a single state, and that two sets with the same states are one.
-use Rattle.std.proofs.Common.{◌≡◌, ℕ, zero, suc, ◌+◌, ◌-◌, ◌/◌, ◌%◌, ◌^◌, ◌<◌, ◌≤◌, min, max, true, false, not, ◌&&◌, ◌||◌, eqb, ◌⊎◌, sym, refl, ap, ◌∙◌, subst, ap₂, inl, inr, ⊎_elim, mul_comm, pow-suc, arith, pow_mono}
+use Rattle.std.proofs.Common.{◌≡◌, ℕ, zero, suc, ◌+◌, ◌-◌, ◌/◌, ◌%◌, ◌^◌, ◌<◌, ◌≤◌, min, max, true, false, not, ◌&&◌, ◌||◌, eqb, ◌⊎◌, sym, refl, ap, ◌∙◌, subst, inl, inr, ⊎_elim, mul_comm, pow-suc, arith, pow_mono}
 use native.Mathlib.Nat.{div-eq_of_lt, mul-mod_left, div-div-eq-div-mul}
 use lib.Arith.{bin_ind}
 use lib.Bits.{bit_and, bit_or, and_shr, or_shr, and_step, or_step, and_mask}
-use Rattle.std.proofs.lemmas.Bool.{eqb-true, eq-eqb, ne_eqb, cases_lt, cases_order, cases_Bool, both_ways}
+use Rattle.std.proofs.lemmas.Bool.{eq-eqb, ne_eqb, cases_lt, cases_order, both_ways}
 use Rattle.std.proofs.lemmas.Bool.Decides.{nat_tests}
 use Rattle.std.proofs.lemmas.Nat.{pow_pos, pow_below, pow-add, shl-shr, mod_below}
 use Rattle.sets.specs.Mask.{has}
@@ -102,26 +102,6 @@ same_set a =
 pub bit_test : (m t : ℕ) → eqb (bit_and (m / 2 ^ t) 1) 1 ≡ has m t
 unfolding has
 bit_test m t = ap (λ x. eqb x 1) (and_mask (m / 2 ^ t) 1)
-
-pub mask_test : (m t : ℕ) → not (eqb (bit_and m (2 ^ t)) 0) ≡ has m t
-mask_test m t = ⊎_elim yes_case no_case (cases_Bool (has m t))
-  where
-    member : (k : ℕ) → has (bit_and m (2 ^ t)) k ≡ (has m k && eqb t k)
-    member k = has-and m (2 ^ t) k ∙ ap (λ b. has m k && b) (has_one t k)
-
-    yes_case : has m t ≡ true → not (eqb (bit_and m (2 ^ t)) 0) ≡ has m t
-    yes_case e =
-        let here : has (bit_and m (2 ^ t)) t ≡ true = member t ∙ ap₂ ◌&&◌ e (eq-eqb t t refl) in
-        ap not (ne_eqb (bit_and m (2 ^ t)) 0 (λ z. both_ways _ (ap (λ x. has x t) z ∙ has_none t) here)) ∙ sym e
-
-    no_case : has m t ≡ false → not (eqb (bit_and m (2 ^ t)) 0) ≡ has m t
-    no_case e =
-        let none : bit_and m (2 ^ t) ≡ 0 = same_set _ 0 (λ k. member k ∙ absent k e ∙ sym (has_none k)) in
-        ap not (eq-eqb (bit_and m (2 ^ t)) 0 none) ∙ sym e
-      where
-        absent : (k : ℕ) → has m t ≡ false → (has m k && eqb t k) ≡ false
-        absent k f =
-            ⊎_elim (λ q. let z = ap (has m) (eqb-true t k q) in rw (q, ← z, f) refl) (λ q. rw q (⊎_elim (λ a. rw a) (λ a. rw a) (cases_Bool (has m k)))) (cases_Bool (eqb t k))
 
 low_other : (k m : ℕ) → m < 2 ^ suc k → (2 ^ suc k - 1 - m) % 2 ≡ 1 - m % 2
 low_other k m h = let b = bit m in omega (arith, pow-suc 2 k, pow_pos k)

@@ -41,16 +41,6 @@ has_chosen (suc n) p t = elim (cases_Bool (p n)) [
 pub is_chosen : (a n : ℕ) (p : ℕ → Bool) → ((t : ℕ) → has a t ≡ (ltb t n && p t)) → a ≡ set_of n p
 is_chosen a n p h = same_set a (set_of n p) (λ t. h t ∙ sym (has_chosen n p t))
 
--- tests that agree below n give the same set
-pub same_chosen : (n : ℕ) (p q : ℕ → Bool) → ((t : ℕ) → t < n → p t ≡ q t) → set_of n p ≡ set_of n q
-same_chosen n p q h = is_chosen (set_of n p) n q (λ t. has_chosen n p t ∙ agree t)
-  where
-    agree : (t : ℕ) → (ltb t n && p t) ≡ (ltb t n && q t)
-    agree t = elim (cases_lt t n) [
-      | inl l ↦ ap (λ b. ltb t n && b) (h t l)
-      | inr g ↦ and_left (ltb t n) (p t) (le-ltb t n g) ∙ sym (and_left (ltb t n) (q t) (le-ltb t n g))
-    ]
-
 -- nothing passes the test
 pub none_chosen : (n : ℕ) (p : ℕ → Bool) → ((t : ℕ) → t < n → p t ≡ false) → set_of n p ≡ 0
 none_chosen n p h = same_set (set_of n p) 0 (λ t. has_chosen n p t ∙ out t ∙ sym (has_none t))

@@ -1,10 +1,10 @@
 -- Laws of the ways in which code goes through a set: the smallest state of it, what is left without another set or one state, and one
--- state more.
-use Rattle.std.proofs.Common.{◌≡◌, cond, ltb, ℕ, zero, suc, ◌+◌, ◌-◌, ◌*◌, ◌/◌, ◌%◌, ◌^◌, ◌<◌, ◌≤◌, true, false, not, ◌&&◌, ◌||◌, eqb, ◌⊎◌, sym, refl, ap, ◌∙◌, subst, ap₂, inl, inr, pow-suc, div-one, arith}
-use lib.Bits.{bit_and, bit_or, or_disjoint, and_le_l}
+-- state alone.
+use Rattle.std.proofs.Common.{◌≡◌, cond, ltb, ℕ, zero, suc, ◌+◌, ◌-◌, ◌/◌, ◌%◌, ◌^◌, ◌<◌, true, false, not, ◌&&◌, ◌||◌, eqb, sym, refl, ap, ◌∙◌, subst, ap₂, inl, inr, pow-suc, div-one, arith}
+use lib.Bits.{bit_and, bit_or, or_disjoint}
 use lib.Count.{count_trailing_zeros, under}
-use Rattle.std.proofs.lemmas.Bool.{cases_eq, cases_lt, cases_Bool, both_ways, eq-eqb, ne_eqb, not_from_true, not_from_false, not-true, le-ltb, lt-ltb, and_parts, and_from, and_left, and_right, or_right}
-use Rattle.std.proofs.lemmas.Nat.{one_shl, or_lt, pow_below, pow_pos}
+use Rattle.std.proofs.lemmas.Bool.{cases_eq, cases_lt, cases_Bool, eq-eqb, ne_eqb, not_from_true, le-ltb, lt-ltb, and_left, and_right, or_right}
+use Rattle.std.proofs.lemmas.Nat.{pow_pos}
 use Rattle.sets.specs.Mask.{has, only, Smallest}
 use Rattle.sets.proofs.Bits.{has-or, has-and, has_one, has_none, has_above, has-not, has-suc, has_self, same_set}
 
@@ -69,104 +69,9 @@ has_without a b k ha hb = elim (cases_lt k 64) [
       has-and a (2 ^ 64 - 1 - b) k ∙ and_left (has a k) _ (has_above a 64 k ha ge) ∙ sym (and_left (has a k) (not (has b k)) (has_above a 64 k ha ge))
 ]
 
-pub without-lt : (a b : ℕ) → a < 2 ^ 64 → without a b < 2 ^ 64
-without-lt a b h = omega (arith, and_le_l a (2 ^ 64 - 1 - b))
-
-pub left_some : (a b : ℕ) → a < 2 ^ 64 → b < 2 ^ 64 → 0 < without a b
-    → (count_trailing_zeros 64 (without a b) < 64) × (has a (count_trailing_zeros 64 (without a b)) ≡ true) × (has b (count_trailing_zeros 64 (without a b)) ≡ false)
-left_some a b ha hb h =
-    let t = smallest (without a b) h (without-lt a b ha) in
-    let k = count_trailing_zeros 64 (without a b) in
-    let p = and_parts (has a k) (not (has b k)) (sym (has_without a b k ha hb) ∙ t.here) in
-    (t.below, p.0, not-true (has b k) p.1)
-
-pub left_none : (a b k : ℕ) → a < 2 ^ 64 → b < 2 ^ 64 → without a b ≡ 0 → has a k ≡ true → has b k ≡ true
-left_none a b k ha hb z h = elim (cases_Bool (has b k)) [
-  | inl y ↦ y
-  | inr n ↦ absurd (both_ways (has 0 k) (has_none k)
-      (sym (ap (λ (x : ℕ). has x k) z) ∙ has_without a b k ha hb ∙ and_from (has a k) _ h (not_from_false (has b k) n)))
-]
-
--- what `x & !(1 << s)` leaves of a set
-abbrev pub cleared : ℕ → ℕ → ℕ
-cleared x s = bit_and x (2 ^ 64 - 1 - (1 * 2 ^ s) % 2 ^ 64)
-
-module _ (x s : ℕ) (fit : x < 2 ^ 64) (st : s < 64) where
-  pub has_cleared : (t : ℕ) → has (cleared x s) t ≡ (has x t && not (eqb s t))
-  has_cleared t =
-      has_without x _ t fit (subst (λ (y : ℕ). y < 2 ^ 64) (sym (one_shl s 64 st)) (pow_below s 64 st))
-      ∙ ap (λ b. has x t && not b) (ap (λ (y : ℕ). has y t) (one_shl s 64 st) ∙ has_one s t)
-
-  pub cleared_self : has (cleared x s) s ≡ false
-  cleared_self = has_cleared s ∙ and_right (has x s) _ (not_from_true _ (eq-eqb s s refl))
-
-  pub cleared_in : (t : ℕ) → has (cleared x s) t ≡ true → has x t ≡ true
-  cleared_in t h = (and_parts (has x t) _ (sym (has_cleared t) ∙ h)).0
-
-  -- what is gone was there before, or is the one that was cleared
-  pub cleared_out : (t : ℕ) → has (cleared x s) t ≡ false → (has x t ≡ false) ⊎ (s ≡ t)
-  cleared_out t h = elim (cases_eq s t) [
-    | inl e ↦ inr e
-    | inr ne ↦ elim (cases_Bool (has x t)) [
-      | inl y ↦ absurd (both_ways _ h (has_cleared t ∙ and_from (has x t) _ y (not_from_false _ (ne_eqb s t ne))))
-      | inr n ↦ inl n
-    ]
-  ]
-
-  pub cleared-lt : has x s ≡ true → cleared x s < x
-  cleared-lt h = elim (cases_eq (cleared x s) x) [
-    | inl e ↦ absurd (both_ways _ cleared_self (ap (λ (y : ℕ). has y s) e ∙ h))
-    | inr ne ↦ omega (arith, and_le_l x (2 ^ 64 - 1 - (1 * 2 ^ s) % 2 ^ 64))
-  ]
-
--- a loop over the states of a set, the smallest first, ends
-pub first_falls : (x : ℕ) → 0 < x → x < 2 ^ 64 → cleared x (count_trailing_zeros 64 x) < x
-first_falls x some fit = let t = smallest x some fit in cleared-lt x (count_trailing_zeros 64 x) fit t.below t.here
-
 -- an empty set has no state
 pub has_empty : (x t : ℕ) → x ≡ 0 → has x t ≡ false
 has_empty x t z = ap (λ (y : ℕ). has y t) z ∙ has_none t
-
--- two sets share a state, or none
-pub shared_some : (a b : ℕ) → a < 2 ^ 64 → 0 < bit_and a b → (t : ℕ) × (has a t ≡ true) × (has b t ≡ true)
-shared_some a b fit some =
-    let k = count_trailing_zeros 64 (bit_and a b) in
-    let t = smallest (bit_and a b) some (omega (arith, and_le_l a b)) in
-    let p = and_parts (has a k) (has b k) (sym (has-and a b k) ∙ t.here) in
-    (k, p.0, p.1)
-
-pub shared_none : (a b t : ℕ) → bit_and a b ≡ 0 → has a t ≡ true → has b t ≡ false
-shared_none a b t z h = elim (cases_Bool (has b t)) [
-  | inl y ↦ absurd (both_ways _ (has_empty (bit_and a b) t z) (has-and a b t ∙ and_from (has a t) (has b t) h y))
-  | inr n ↦ n
-]
-
--- what is in one of four sets
-pub has_four : (a b c d t : ℕ) → has (bit_or (bit_or (bit_or a b) c) d) t ≡ (((has a t || has b t) || has c t) || has d t)
-has_four a b c d t = has-or (bit_or (bit_or a b) c) d t ∙ ap (λ x. x || has d t) (has-or (bit_or a b) c t ∙ ap (λ x. x || has c t) (has-or a b t))
-
--- a set of which a state is cleared is no larger, and it stays within a set of which that state is cleared too
-pub cleared-le : (x s : ℕ) → cleared x s ≤ x
-cleared-le x s = and_le_l x (2 ^ 64 - 1 - (1 * 2 ^ s) % 2 ^ 64)
-
-pub cleared_within : (x y s t : ℕ) → x < 2 ^ 64 → y < 2 ^ 64 → s < 64 → (has x t ≡ true → has y t ≡ true) → has (cleared x s) t ≡ true → has (cleared y s) t ≡ true
-cleared_within x y s t fx fy st sub h =
-    let p = and_parts (has x t) (not (eqb s t)) (sym (has_cleared x s fx st t) ∙ h) in
-    has_cleared y s fy st t ∙ and_from (has y t) (not (eqb s t)) (sub p.0) p.1
-
--- the set of one state, as `1 << s` makes it
-pub has_bit : (s t : ℕ) → s < 64 → has ((1 * 2 ^ s) % 2 ^ 64) t ≡ eqb s t
-has_bit s t st = ap (λ (x : ℕ). has x t) (one_shl s 64 st) ∙ has_one s t
-
--- what `x | (1 << s)` makes of a set
-abbrev pub added : ℕ → ℕ → ℕ
-added x s = bit_or x ((1 * 2 ^ s) % 2 ^ 64)
-
-pub added_fits : (x s : ℕ) → x < 2 ^ 64 → s < 64 → added x s < 2 ^ 64
-added_fits x s fit st = or_lt 64 x _ fit (subst (λ (y : ℕ). y < 2 ^ 64) (sym (one_shl s 64 st)) (pow_below s 64 st))
-
-pub added_more : (x s : ℕ) → s < 64 → has x s ≡ false → x < added x s
-added_more x s st new = omega (arith, ap (bit_or x) (one_shl s 64 st), or_new x s new, pow_pos s)
 
 -- what is in the set that `only` makes
 pub has_only : (s t : ℕ) → has (cond (ltb s 64) (only s) 0) t ≡ (ltb s 64 && eqb s t)

@@ -1,7 +1,7 @@
 use Rattle.std.specs.Prelude.{MatchBool}
-use Rattle.std.proofs.Common.{◌≡◌, ℕ, List, Bool, true, false, not, ◌||◌, ap, ◌∙◌, sym, ap₂, subst}
+use Rattle.std.proofs.Common.{ℕ, List, Bool, true, false, not, ◌||◌, ap₂, subst}
 use Rattle.std.proofs.lemmas.Bool.{or_left, or_right}
-use Rattle.configurations.specs.Holds.{holds, Nothing, Something}
+use Rattle.configurations.specs.Holds.{Nothing, Something}
 use Rattle.picture.specs.declared.Picture.{Picture}
 use Rattle.finish.specs.Rules.{Spoilt, Clean}
 use Rattle.finish.proofs.spoilt.Goals as goal

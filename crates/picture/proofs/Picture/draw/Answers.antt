@@ -1,7 +1,7 @@
-use Rattle.std.proofs.Common.{ℕ, ◌≡◌, true, false, ◌&&◌, ◌||◌, eqb, sym, ap, ◌∙◌}
+use Rattle.std.proofs.Common.{ℕ, ◌&&◌, ◌||◌, eqb, sym, ap, ◌∙◌}
 use Rattle.sets.specs.Mask.{has}
 use Rattle.configurations.specs.Holds.{holds}
-use Rattle.picture.proofs.Live.{In, left_in, left_out, all_in, fewer_left, live_none, live_rests, live_moves, live_all}
+use Rattle.picture.proofs.Live.{left_in, left_out, all_in, fewer_left, live_none, live_rests, live_moves, live_all}
 use Rattle.picture.proofs.Picture.draw.Goals as goal
 use Rattle.picture.proofs.Picture.draw.Goals.{in-Moving, in_default-kind}
 

@@ -1,10 +1,9 @@
-use Rattle.std.proofs.Common.{◌≡◌, ℕ, ◌<◌, true, List, get_or, sym, refl, ap, ◌∙◌, subst, subst₂, inl, inr, arith}
-use Rattle.std.proofs.lemmas.Bool.{true≢false, false≢true}
-use Rattle.configurations.specs.Holds.{holds, weight}
+use Rattle.std.proofs.Common.{ℕ, List, get_or, ap, ◌∙◌, subst, subst₂, inl, inr, arith}
+use Rattle.std.proofs.lemmas.Bool.{true≢false}
 use Rattle.configurations.proofs.Sets.{gone, less_in, less_within, less-lt, weight-le}
 use Rattle.picture.specs.declared.Step.{Step}
-use Rattle.picture.specs.Settling.{Met, Unmet, Waits}
-use Rattle.picture.proofs.Sweeps.{swept_none, swept_more}
+use Rattle.picture.specs.Settling.{Unmet, Waits}
+use Rattle.picture.proofs.Sweeps.{swept_more}
 use Rattle.picture.proofs.Picture.sweep.Goals as goal
 
 pub loop-at-preserved-then-met : goal.loop-at-preserved-then-met

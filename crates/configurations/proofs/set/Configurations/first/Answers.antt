@@ -1,6 +1,5 @@
-use Rattle.std.proofs.Common.{◌≡◌, ℕ, false, sym, ap, ◌∙◌, subst, inl, inr, arith}
+use Rattle.std.proofs.Common.{◌≡◌, ℕ, false, sym, ◌∙◌, subst, inl, inr, arith}
 use Rattle.std.proofs.lemmas.Bool.{cases_eq, cases_lt}
-use Rattle.sets.specs.Mask.{has}
 use Rattle.sets.proofs.Members.{has_empty}
 use Rattle.configurations.specs.Holds.{holds}
 use Rattle.configurations.proofs.Sets.{held_past}

@@ -1,4 +1,3 @@
-use Rattle.configurations.specs.Holds.{Less}
 use Rattle.configurations.proofs.Sets.{less-lt}
 use Rattle.configurations.proofs.set.calls.InOrderIterator.next.Goals as goal
 

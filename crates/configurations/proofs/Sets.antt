@@ -6,7 +6,7 @@ use Rattle.std.proofs.lemmas.Bool.{cases_Bool, cases_eq, cases_lt, both_ways, eq
 use Rattle.std.proofs.lemmas.List.{get_or-set_same, get_or-set_other, get_or_past, set_past}
 use Rattle.sets.specs.Mask.{has}
 use Rattle.sets.proofs.Arrays.{zeros}
-use Rattle.sets.proofs.Bits.{has-and, same_set}
+use Rattle.sets.proofs.Bits.{has_intersection, same_set}
 use Rattle.sets.proofs.Chosen.{chosen_within}
 use Rattle.sets.proofs.Members.{has_empty}
 use Rattle.configurations.specs.Holds.{holds, same, Nothing, Less, weight}
@@ -29,7 +29,7 @@ module _ (c : List ℕ) (i y : ℕ) (lt : i < length c) where
 
 -- a set of states that is a part of another is a number at most as large, and smaller if a state is missing in it
 pub part-le : (a b : ℕ) → ((t : ℕ) → has a t ≡ true → has b t ≡ true) → a ≤ b
-part-le a b sub = omega (arith, and_le_r a b, same_set a (bit_and a b) (λ t. both t (has a t) refl ∙ sym (has-and a b t)))
+part-le a b sub = omega (arith, and_le_r a b, same_set a (bit_and a b) (λ t. both t (has a t) refl ∙ sym (has_intersection a b t)))
   where
     both : (t : ℕ) (x : Bool) → has a t ≡ x → has a t ≡ (has a t && has b t)
     both t true e = rw (e, sub t e) refl

@@ -10,7 +10,8 @@ pub const MOST_MEMORIES: u8 = 4;
 pub const MOST_ENTRIES: usize = MOST_MEMORIES as usize * MOST_OBSERVATIONS as usize;
 
 // A controller of `memories` memories over an alphabet of `actions` and `observations`. Entry (m, o) stands at the place
-// m * observations + o; places past the last entry are not used.
+// m * observations + o; places past the last entry are not used. One array and no rows, in the order in which a
+// table's entries are listed.
 #[derive(Clone, Copy)]
 pub struct Table {
     memories: u8,

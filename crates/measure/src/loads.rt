@@ -13,7 +13,8 @@ use picture::{Configuration, Configurations, Kind, Picture};
 use refusals::Refusal;
 use sets::StateSet;
 
-// The runs of a table in an environment, drawn in a picture, and the measure that they are weighed with.
+// The runs of a table in an environment, drawn in a picture, and the measure that they are weighed with. The loads stay apart: with them in
+// here `settle` would have to promise that the rest of it stays, and the test for too few would stand twice.
 #[derive(Drop)]
 struct Runs<'a, M, E> {
     measure: &'a M,

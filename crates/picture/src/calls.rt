@@ -31,7 +31,8 @@ impl Picture {
         }
     }
 
-    // The configurations that are reached, and those of each kind among them.
+    // The configurations that are reached, and those of each kind among them: a call for each, since one call for all would be a match over
+    // the fields.
     pub fn reached(&self) -> Configurations
         ensures { result ≡ self.now.reached }
     {

@@ -17,7 +17,7 @@ const PLACES: usize = MEMORIES * STATES;
 
 #[derive(Clone, Copy, Debug, PartialEq, Eq)]
 pub enum Kind {
-    // No run comes here.
+    // No run comes here. Every configuration has one of six kinds, so that this is a kind and no absence.
     NotReached,
     // The entry that is read here is blank.
     Open,

@@ -5,7 +5,7 @@ ghost use Rattle.picture.specs.Settling.{Met, Unmet, Rests, Swept, Waits};
 use crate::{Configurations, Picture, Step};
 use sets::StateSet;
 
-// How many of its outcomes a moving configuration waits for.
+// How many of its outcomes a moving configuration waits for. An enum and no closure: what comes to rest is defined by it.
 #[derive(Clone, Copy, Debug, PartialEq, Eq)]
 pub enum Quorum {
     Every,

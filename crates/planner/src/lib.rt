@@ -61,7 +61,7 @@ fn search<R: FinishRule + Drop>(model: Model, rule: R, bound: u8) -> Verdict
     Verdict::Open { judged }
 }
 
-// What comes of a job file.
+// What comes of a job file. Each rule is another type of case, so that the search is chosen here.
 pub fn solve(file: &[u8]) -> Verdict
     ensures { Answered file.now result }
 {

@@ -28,6 +28,7 @@ pub enum Verdict {
     Open {
         judged: u32,
     },
+    // The job was refused: a verdict like the others, and no error, since every job has its lines and the planner cannot fail.
     Refused(JobFault),
 }
 

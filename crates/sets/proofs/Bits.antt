@@ -32,15 +32,15 @@ min_bit x y (inl e) (inr f) = rw (e, f)
 min_bit x y (inr e) (inl f) = rw (e, f)
 min_bit x y (inr e) (inr f) = rw (e, f)
 
-pub has-or : (a b t : ℕ) → has (bit_or a b) t ≡ (has a t || has b t)
+pub has_union : (a b t : ℕ) → has (bit_or a b) t ≡ (has a t || has b t)
 unfolding has
-has-or a b t =
+has_union a b t =
     ap (λ x. eqb (x % 2) 1) (or_shr a b t) ∙ ap (λ x. eqb x 1) (or_low (a / 2 ^ t) (b / 2 ^ t))
     ∙ max_bit _ _ (two_cases _ (bit (a / 2 ^ t))) (two_cases _ (bit (b / 2 ^ t)))
 
-pub has-and : (a b t : ℕ) → has (bit_and a b) t ≡ (has a t && has b t)
+pub has_intersection : (a b t : ℕ) → has (bit_and a b) t ≡ (has a t && has b t)
 unfolding has
-has-and a b t =
+has_intersection a b t =
     ap (λ x. eqb (x % 2) 1) (and_shr a b t) ∙ ap (λ x. eqb x 1) (and_low (a / 2 ^ t) (b / 2 ^ t))
     ∙ min_bit _ _ (two_cases _ (bit (a / 2 ^ t))) (two_cases _ (bit (b / 2 ^ t)))
 

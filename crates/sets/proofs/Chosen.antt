@@ -5,7 +5,7 @@ use Rattle.std.proofs.lemmas.Nat.{pow_pos}
 use Rattle.std.proofs.lemmas.Bool.{cases_Bool, cases_eq, cases_lt, cases_order, cond_both, cond-true, cond-false, eq-eqb, ne_eqb, le-ltb, lt-ltb, and_left, and_right, and_from}
 use Rattle.std.proofs.lemmas.Bool.Decides.{nat_tests}
 use Rattle.sets.specs.Mask.{has, set_of, only}
-use Rattle.sets.proofs.Bits.{has-or, has_one, has_none, has_above, same_set}
+use Rattle.sets.proofs.Bits.{has_union, has_one, has_none, has_above, same_set}
 
 pub chosen-lt : (n : ℕ) (p : ℕ → Bool) → set_of n p < 2 ^ n
 unfolding set_of
@@ -27,7 +27,7 @@ pub has_chosen : (n : ℕ) (p : ℕ → Bool) (t : ℕ) → has (set_of n p) t �
 unfolding set_of
 has_chosen zero p t = has_none t ∙ sym (ap (λ b. b && p t) (le-ltb t 0 (omega arith)))
 has_chosen (suc n) p t = elim (cases_Bool (p n)) [
-  | inl e ↦ ap (λ m. has m t) (takes n p e) ∙ has-or (set_of n p) (2 ^ n) t ∙ ap₂ ◌||◌ (has_chosen n p t) (has_one n t) ∙ in-case e
+  | inl e ↦ ap (λ m. has m t) (takes n p e) ∙ has_union (set_of n p) (2 ^ n) t ∙ ap₂ ◌||◌ (has_chosen n p t) (has_one n t) ∙ in-case e
   | inr e ↦ ap (λ m. has m t) (keeps n p e) ∙ has_chosen n p t ∙ out_case e
 ]
   where

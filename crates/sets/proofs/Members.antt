@@ -6,7 +6,7 @@ use lib.Count.{count_trailing_zeros, under}
 use Rattle.std.proofs.lemmas.Bool.{cases_eq, cases_lt, cases_Bool, eq-eqb, ne_eqb, not_from_true, le-ltb, lt-ltb, and_left, and_right, or_right}
 use Rattle.std.proofs.lemmas.Nat.{pow_pos}
 use Rattle.sets.specs.Mask.{has, only, Smallest}
-use Rattle.sets.proofs.Bits.{has-or, has-and, has_one, has_none, has_above, has-not, has-suc, has_self, same_set}
+use Rattle.sets.proofs.Bits.{has_union, has_intersection, has_one, has_none, has_above, has-not, has-suc, has_self, same_set}
 
 low_bit : (a : ℕ) → has a 0 ≡ eqb (a % 2) 1
 unfolding has
@@ -50,7 +50,7 @@ some_state x ne = let t = least x x (omega (arith, ne)) (below_pow x) in (count_
 
 -- a state that is new makes the number larger
 pub or_new : (x t : ℕ) → has x t ≡ false → bit_or x (2 ^ t) ≡ x + 2 ^ t
-or_new x t h = or_disjoint x (2 ^ t) (same_set (bit_and x (2 ^ t)) 0 (λ k. has-and x (2 ^ t) k ∙ both k ∙ sym (has_none k)))
+or_new x t h = or_disjoint x (2 ^ t) (same_set (bit_and x (2 ^ t)) 0 (λ k. has_intersection x (2 ^ t) k ∙ both k ∙ sym (has_none k)))
   where
     both : (k : ℕ) → (has x k && has (2 ^ t) k) ≡ false
     both k = elim (cases_eq t k) [
@@ -64,9 +64,9 @@ without a b = bit_and a (2 ^ 64 - 1 - b)
 
 pub has_without : (a b k : ℕ) → a < 2 ^ 64 → b < 2 ^ 64 → has (without a b) k ≡ (has a k && not (has b k))
 has_without a b k ha hb = elim (cases_lt k 64) [
-  | inl lt ↦ has-and a (2 ^ 64 - 1 - b) k ∙ ap (λ x. has a k && x) (has-not 64 b k hb lt)
+  | inl lt ↦ has_intersection a (2 ^ 64 - 1 - b) k ∙ ap (λ x. has a k && x) (has-not 64 b k hb lt)
   | inr ge ↦
-      has-and a (2 ^ 64 - 1 - b) k ∙ and_left (has a k) _ (has_above a 64 k ha ge) ∙ sym (and_left (has a k) (not (has b k)) (has_above a 64 k ha ge))
+      has_intersection a (2 ^ 64 - 1 - b) k ∙ and_left (has a k) _ (has_above a 64 k ha ge) ∙ sym (and_left (has a k) (not (has b k)) (has_above a 64 k ha ge))
 ]
 
 -- an empty set has no state
@@ -104,6 +104,6 @@ module _ (set s left : ℕ) (here : has set s ≡ true) (taken : Left set s left
 
       back : (t : ℕ) → has set t ≡ has (bit_or left (2 ^ s)) t
       back t = elim (cases_eq s t) [
-        | inl e ↦ subst (λ (x : ℕ). has set x ≡ has (bit_or left (2 ^ s)) x) e (here ∙ sym (has-or left (2 ^ s) s ∙ or_right (has left s) _ (has_self s)))
-        | inr ne ↦ sym (has-or left (2 ^ s) t ∙ ap₂ ◌||◌ (taken t) (has_one s t) ∙ other t (ne_eqb s t ne))
+        | inl e ↦ subst (λ (x : ℕ). has set x ≡ has (bit_or left (2 ^ s)) x) e (here ∙ sym (has_union left (2 ^ s) s ∙ or_right (has left s) _ (has_self s)))
+        | inr ne ↦ sym (has_union left (2 ^ s) t ∙ ap₂ ◌||◌ (taken t) (has_one s t) ∙ other t (ne_eqb s t ne))
       ]

@@ -4,7 +4,7 @@ use lib.Bits.{bit_or}
 use Rattle.std.proofs.lemmas.Nat.{or_lt, pow_below}
 use Rattle.std.proofs.lemmas.Bool.{eq-eqb, eqb-true, lt-ltb, or_cases, or_left, or_right}
 use Rattle.sets.specs.Mask.{has}
-use Rattle.sets.proofs.Bits.{has_one, has-or, same_set}
+use Rattle.sets.proofs.Bits.{has_one, has_union, same_set}
 
 -- what `with` promises of the set `new` that it makes of `old` and the state v
 abbrev pub More : ℕ → ℕ → ℕ → Type 0
@@ -16,7 +16,7 @@ module _ (old n v new : ℕ) (few : n ≤ 64) (low : v < n) (made : More old v n
 
   pub more_in : old < 2 ^ n → new < 2 ^ n
   more_in h =
-      let e : new ≡ bit_or old (2 ^ v) = same_set new (bit_or old (2 ^ v)) (λ t. more-has t ∙ ap (λ x. has old t || x) (sym (has_one v t)) ∙ sym (has-or old (2 ^ v) t)) in
+      let e : new ≡ bit_or old (2 ^ v) = same_set new (bit_or old (2 ^ v)) (λ t. more-has t ∙ ap (λ x. has old t || x) (sym (has_one v t)) ∙ sym (has_union old (2 ^ v) t)) in
       subst (λ x. x < 2 ^ n) (sym e) (or_lt n old (2 ^ v) h (pow_below v n low))
 
   pub more_old : (t : ℕ) → has old t ≡ true → has new t ≡ true

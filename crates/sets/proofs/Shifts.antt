@@ -7,7 +7,7 @@ use Rattle.std.proofs.Math.Bool.{and-false, and-true, and_comm}
 use Rattle.std.proofs.lemmas.Nat.{pow-add, pow_pos, shl-shr, shr-shr}
 use Rattle.std.proofs.lemmas.Bool.{cases_lt, le-ltb, lt-ltb, le-leb, lt-leb, and_left, and_right}
 use Rattle.sets.specs.Mask.{has}
-use Rattle.sets.proofs.Bits.{has_above, has_none, has-and, has-not}
+use Rattle.sets.proofs.Bits.{has_above, has_none, has_intersection, has-not}
 
 -- all states below k
 pub has_all : (k t : ℕ) → has (2 ^ k - 1) t ≡ ltb t k
@@ -38,7 +38,7 @@ has_under y k t l =
 -- the states below n alone, as a remainder leaves them
 pub has_cut : (x n t : ℕ) → has (x % 2 ^ n) t ≡ (ltb t n && has x t)
 has_cut x n t =
-    ap (λ (y : ℕ). has y t) (sym (and_mask x n)) ∙ has-and x (2 ^ n - 1) t ∙ ap (λ b. has x t && b) (has_all n t) ∙ and_comm (has x t) (ltb t n)
+    ap (λ (y : ℕ). has y t) (sym (and_mask x n)) ∙ has_intersection x (2 ^ n - 1) t ∙ ap (λ b. has x t && b) (has_all n t) ∙ and_comm (has x t) (ltb t n)
 
 -- what is in a set that is moved up by k states, of which those past 63 are gone
 pub has_moved : (x k t : ℕ) → has ((x * 2 ^ k) % 2 ^ 64) t ≡ (ltb t 64 && leb k t && has x (t - k))

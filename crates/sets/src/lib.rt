@@ -76,6 +76,7 @@ impl StateSet {
     }
 
     // Is the state in the set? No set holds a state past 63.
+    #[tactic(auto, using(crate::proofs::Bits::bit_test))]
     pub fn contains(self, state: u8) -> bool
         ensures { result ≡ has self state }
     {
@@ -90,6 +91,7 @@ impl StateSet {
     }
 
     // The smallest state of the set.
+    #[tactic(auto, using(crate::proofs::Members::smallest))]
     pub fn first(self) -> Option<u8>
         ensures { MatchOption result (self ≡ 0) (λ s. Smallest self s) }
     {
@@ -117,6 +119,7 @@ impl StateSet {
     }
 
     // The states of the set that are not in the other.
+    #[tactic(auto, using(crate::proofs::Members::has_without))]
     pub fn without(self, other: StateSet) -> StateSet
         ensures { (t : ℕ) → has result t ≡ (has self t && not (has other t)) }
     {
@@ -126,6 +129,7 @@ impl StateSet {
     }
 
     // The states of either set.
+    #[tactic(auto, using(crate::proofs::Bits::has_union))]
     pub fn union(self, other: StateSet) -> StateSet
         ensures { (t : ℕ) → has result t ≡ (has self t || has other t) }
     {
@@ -135,6 +139,7 @@ impl StateSet {
     }
 
     // The states of both sets.
+    #[tactic(auto, using(crate::proofs::Bits::has_intersection))]
     pub fn intersection(self, other: StateSet) -> StateSet
         ensures { (t : ℕ) → has result t ≡ (has self t && has other t) }
     {

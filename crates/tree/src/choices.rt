@@ -13,7 +13,8 @@ fn first_move(bars: &Bars, table: &Table, observation: u8, from: u8) -> Option<E
     Some(Entry::Move { action, next: 0 })
 }
 
-// What an entry at the observation is filled with after what it holds; none where every choice has been made.
+// What an entry at the observation is filled with after what it holds; none where every choice has been made. Bars, table and observation
+// are parameters: a struct of them would be made for this one call.
 #[tactic(auto, using(crate::proofs::Siblings::next_memory))]
 pub fn following(bars: &Bars, table: &Table, observation: u8, entry: Entry) -> Option<Entry>
     ensures { MatchOption result (choices_after bars.now table.now.memories table.now.actions observation entry ≡ []) (λ f. choices_after bars.now table.now.memories table.now.actions observation entry ≡ f ∷ choices_after bars.now table.now.memories table.now.actions observation f) }

@@ -1,7 +1,7 @@
 // Runs many job files: each line of standard input is one, in hexadecimal, and its report is printed, with an empty line after it.
 #![tactic(auto)]
 
-ghost use Rattle.std.specs.Prelude.{◌<◌, IfOk};
+ghost use Rattle.std.specs.Prelude.{◌<◌, ◌≤◌, IfOk, vec_len};
 
 use anyhow::anyhow;
 use std::alloc::Global;
@@ -9,6 +9,7 @@ use std::alloc::Global;
 // So many bytes of a line are read, at most, as of a job file.
 const MOST_BYTES: usize = 4096;
 
+// By hand: the kit's `hex` takes capitals too, and refuses a last digit that has no other.
 fn digit(byte: u8) -> anyhow::Result<u8>
     ensures { IfOk result (λ d. d < 16) }
 {
@@ -20,7 +21,9 @@ fn digit(byte: u8) -> anyhow::Result<u8>
 }
 
 // The bytes of a line of hexadecimal digits, two for each.
-fn decode(heap: Global, line: &str) -> anyhow::Result<Vec<u8>> {
+fn decode(heap: Global, line: &str) -> anyhow::Result<Vec<u8>>
+    ensures { IfOk result (λ file. vec_len file ≤ 4096) }
+{
     let mut file = Vec::new(heap);
     for pair in line.as_bytes().chunks_exact(2).take(MOST_BYTES) {
         file.push(digit(pair[0])? * 16 + digit(pair[1])?)?;

@@ -50,7 +50,7 @@ impl<E: Environment, R: FinishRule> Case<E, R> {
         Ok(())
     }
 
-    // Whether the case takes the call, by its state and by what the call is given.
+    // Whether the case takes the call, by its state and by what the call is given: the table of refusals, line for line.
     pub(super) fn admit(&self, call: Call) -> Result<(), Refusal>
         ensures { result ≡ admitted (refusal (E.Environment.meaning self.now.environment) self.now.phase call) }
     {

@@ -8,7 +8,8 @@ use crate::table::{MOST_ENTRIES, MOST_MEMORIES, Table};
 use environment::{MOST_ACTIONS, MOST_OBSERVATIONS};
 
 impl Table {
-    // The table with every entry blank. A count past its limit is taken as the limit, and no memory as one.
+    // The table with every entry blank. A count past its limit is taken as the limit, and no memory as one. Three numbers, since each caller
+    // has them from three places.
     pub fn blank(memories: u8, actions: u8, observations: u8) -> Table
         ensures memories { result.memories ≡ max 1 (min memories 4) }
         ensures actions { result.actions ≡ min actions 8 }

@@ -202,6 +202,7 @@ impl<'a> Sheet<'a> {
         requires { first ≤ records_of self.now }
         ensures { Judged (judge_chain self.now head.state head.action (records_of self.now) [] first) (ChainRead self.now first) result }
     {
+        // no iterator: the next index comes from a judging that can fail and needs what was met so far
         let mut met = StateSet::EMPTY;
         let mut index = first;
         'records: while index != 0 {

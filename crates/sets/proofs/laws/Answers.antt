@@ -1,4 +1,4 @@
-use Rattle.sets.proofs.Bits.{has-or, has-and, has-not, has_one, has_none, same_set}
+use Rattle.sets.proofs.Bits.{has_union, has_intersection, has-not, has_one, has_none, same_set}
 use Rattle.sets.proofs.Chosen.{has_chosen, within_chosen, chosen_within}
 use Rattle.sets.proofs.laws.Goals as goal
 
@@ -10,7 +10,7 @@ returns c = record {
   chosen = has_chosen;
   within = within_chosen;
   bounded = chosen_within;
-  union = has-or;
-  intersection = has-and;
+  union = has_union;
+  intersection = has_intersection;
   complement = has-not;
 }

@@ -24,7 +24,8 @@ impl Bars {
         }
     }
 
-    // Bars the action at the observation, and nothing else; past the limits of an alphabet nothing changes.
+    // Bars the action at the observation, and nothing else; past the limits of an alphabet nothing changes. The two numbers are those of the
+    // call `bar` of a case, and each is looked at once.
     pub fn add(&mut self, observation: u8, action: u8)
         ensures { (o a : ℕ) → barred_at self.new o a ≡ (barred_at self.old o a || (stands observation action && (observation == o && action == a))) }
     {

@@ -11,7 +11,7 @@ use controller::place::Place;
 use controller::table::Table;
 
 impl Walk {
-    // The root of the tree: every entry blank.
+    // The root of the tree: every entry blank. The counts are three numbers here as in a table, since callers have them from three places.
     pub fn root(memories: u8, actions: u8, observations: u8) -> Walk
         ensures { Root memories actions observations result }
     {
@@ -21,7 +21,8 @@ impl Walk {
         }
     }
 
-    // To the first child, which fills the entry with stop. False, with nothing changed, where the trail is full.
+    // To the first child, which fills the entry with stop. False, with nothing changed, where the trail is full: an error would only hand
+    // back the place that the caller has.
     pub fn descend(&mut self, at: Place) -> bool
         ensures { Descended at self.old self.new result }
     {

@@ -1,10 +1,7 @@
 use Rattle.std.proofs.Common.{sym, ◌∙◌}
 use Rattle.std.proofs.lemmas.Bool.{le-ltb}
-use Rattle.sets.proofs.Bits.{bit_test, has_above}
+use Rattle.sets.proofs.Bits.{has_above}
 use Rattle.sets.proofs.StateSet.contains.Goals as goal
-
-pub returns-then-state-lt64 : goal.returns-then-state-lt64
-returns-then-state-lt64 c = rw (← c.self.view_is) (bit_test c.self.inside.mask c.args.state)
 
 pub returns-else-state-lt64 : goal.returns-else-state-lt64
 returns-else-state-lt64 c =

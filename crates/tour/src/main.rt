@@ -91,22 +91,35 @@ fn wide_pair() -> Pair<Shuttle, Shuttle>
     Pair::new(Shuttle::new(5), Shuttle::new(4))
 }
 
-fn main(rt: HostRuntime) -> io::Result<()> {
-    let gate = Model::of(&GATE);
+// The environments of model sheets, a refused one among them.
+fn show_sheets(rt: &impl Print) -> io::Result<()> {
     let mut broken = GATE;
     broken[0] = 78;
-    let slipping = Slip::new(Pair::new(Slip::new(Shuttle::new(2)), Slip::new(gate)));
-    show(&rt, "jam station", &Model::of(&JAM_STATION))?;
-    show(&rt, "gate", &gate)?;
-    show(&rt, "refused sheet", &Model::of(&broken))?;
-    show(&rt, "shuttle of 3", &Shuttle::new(3))?;
-    show(&rt, "shuttle of 33", &Shuttle::new(33))?;
-    show(&rt, "slip over a shuttle of 3", &Slip::new(Shuttle::new(3)))?;
+    show(rt, "jam station", &Model::of(&JAM_STATION))?;
+    show(rt, "gate", &Model::of(&GATE))?;
+    show(rt, "refused sheet", &Model::of(&broken))
+}
+
+fn show_shuttles(rt: &impl Print) -> io::Result<()> {
+    show(rt, "shuttle of 3", &Shuttle::new(3))?;
+    show(rt, "shuttle of 33", &Shuttle::new(33))?;
+    show(rt, "slip over a shuttle of 3", &Slip::new(Shuttle::new(3)))
+}
+
+// Layers over a shuttle and an environment beside it.
+fn show_layers<E: Environment + Copy>(rt: &impl Print, beside: E) -> io::Result<()> {
     show(
-        &rt,
+        rt,
         "pair of a shuttle of 2 and a gate",
-        &Pair::new(Shuttle::new(2), gate),
+        &Pair::new(Shuttle::new(2), beside),
     )?;
-    show(&rt, "slip over a pair of slips over these", &slipping)?;
+    let slipping = Slip::new(Pair::new(Slip::new(Shuttle::new(2)), Slip::new(beside)));
+    show(rt, "slip over a pair of slips over these", &slipping)
+}
+
+fn main(rt: HostRuntime) -> io::Result<()> {
+    show_sheets(&rt)?;
+    show_shuttles(&rt)?;
+    show_layers(&rt, Model::of(&GATE))?;
     show(&rt, "pair of shuttles of 5 and 4", &wide_pair())
 }

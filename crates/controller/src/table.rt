@@ -11,7 +11,7 @@ pub const MOST_ENTRIES: usize = MOST_MEMORIES as usize * MOST_OBSERVATIONS as us
 
 // A controller of `memories` memories over an alphabet of `actions` and `observations`. Entry (m, o) stands at the place
 // m * observations + o; places past the last entry are not used. One array and no rows, in the order in which a
-// table's entries are listed.
+// table's entries are listed: of a row no proof would know the length after a write.
 #[derive(Clone, Copy)]
 pub struct Table {
     memories: u8,

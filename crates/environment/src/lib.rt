@@ -29,7 +29,8 @@ pub trait Alphabet {
 }
 
 // An alphabet with states besides. Its meaning is one finite system; each question answers that system's value, for every argument, in
-// range or not, and asking changes nothing. The system is one over the alphabet: it is a law, and every question promises it too.
+// range or not, and asking changes nothing. The system is one over the alphabet: it is a law, and
+// every question promises it too, so that who asks one knows it with no law at hand.
 pub trait Environment: Alphabet {
     ghost meaning: { Self → System };
 
@@ -51,7 +52,7 @@ pub trait Environment: Alphabet {
         ensures value { result ≡ (meaning self.now).observation state }
         ensures alphabet { Over (Self.Alphabet.acts self.now) (Self.Alphabet.sights self.now) (meaning self.now) };
 
-    // The states to which the action may lead; none where it is not legal.
+    // The states to which the action may lead; none where it is not legal. State and action are two numbers, as the question is laid down.
     fn outcomes(&self, state: u8, action: u8) -> StateSet
         ensures value { result ≡ (meaning self.now).outcomes state action }
         ensures alphabet { Over (Self.Alphabet.acts self.now) (Self.Alphabet.sights self.now) (meaning self.now) };

@@ -12,7 +12,8 @@ pub trait FinishRule {
     fn rejected(&self, picture: &Picture) -> bool;
 }
 
-// The two rules differ in their quorum alone, but each is a type with one `impl`, as a rule of somebody else would be.
+// The two rules at hand differ in their quorum alone, but each is a type with one `impl`, as a rule of somebody else would be.
+
 // Every run is to stop in a goal: no cycle of moves is let pass.
 #[derive(Clone, Copy, Debug, PartialEq, Eq)]
 pub struct Strict;

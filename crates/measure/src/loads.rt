@@ -5,11 +5,10 @@ ghost use Rattle.measure.specs.Refused.{size, Loaded, Refused};
 
 use crate::Measure;
 use controller::entry::Entry;
-use controller::place::Place;
 use controller::table::Table;
 use environment::Environment;
 use picture::settling::Quorum;
-use picture::{Configuration, Configurations, Kind, Picture};
+use picture::{Configuration, Configurations, Kind, Picture, reading};
 use refusals::Refusal;
 use sets::StateSet;
 
@@ -59,11 +58,7 @@ impl<M: Measure, E: Environment> Runs<'_, M, E> {
     fn load_from(&self, loads: &[M::Load], at: Configuration) -> M::Load
         requires room { size (E.Environment.meaning self.now.environment.now) self.now.table.now ≤ length loads.now }
     {
-        let read = Place {
-            memory: at.memory,
-            observation: self.environment.observation(at.state),
-        };
-        match self.table.entry(read) {
+        match self.table.entry(reading(self.environment, at)) {
             Entry::Move { action, next } => {
                 let outcomes = self.environment.outcomes(at.state, action);
                 let rest = self.greatest(loads, next, outcomes);
@@ -79,7 +74,7 @@ impl<M: Measure, E: Environment> Runs<'_, M, E> {
     {
         for at in waiting.in_order() {
             if let Kind::Moving { next, outcomes } = self.picture.kind(at) {
-                if outcomes.intersection(waiting.at(next)).is_empty() {
+                if Quorum::Every.met(outcomes, waiting.at(next)) {
                     return Some(at);
                 }
             }
@@ -92,9 +87,10 @@ impl<M: Measure, E: Environment> Runs<'_, M, E> {
         ensures { (m s : ℕ) → holds result m s ≡ (is_moving self.now.picture.now m s && (nat_lt m self.now.table.now.memories && nat_lt s (E.Environment.meaning self.now.environment.now).states)) }
     {
         let all = StateSet::below(self.environment.states());
+        let drawn = self.picture.moving();
         let mut moving = Configurations::none();
         for memory in 0..self.table.memories() {
-            moving.add(memory, self.picture.moving().at(memory).intersection(all));
+            moving.add(memory, drawn.at(memory).intersection(all));
         }
         moving
     }

@@ -61,26 +61,25 @@ module _ (c d : Counts) (x y : System) where
       omega (arith, mul-add-lt o1 d.observations o2 c.observations (ltb-true _ _ h.0) (ltb-true _ _ h.1), mul_comm c.observations d.observations))
       (λ _. some)
 
+  -- a pair by counts that keep the limits is a sound system
+  pub joined_sound : c.actions + d.actions ≤ 8 → c.observations * d.observations ≤ 16 → c.states * d.states ≤ 64
+      → (0 < c.states * d.states → 0 < c.observations * d.observations) → Sound (joined c d x y)
+  joined_sound able narrow few seen = record {
+    few_actions = able;
+    few_observations = narrow;
+    few_states = few;
+    initial_in = product_lt c.states d.states x.initial y.initial;
+    goal_in = product_lt c.states d.states x.goal y.goal;
+    outcomes_in = λ s a. led-lt (mover_of c d a) (parts_of c d s);
+    observation_in = λ s h. rw (lt-ltb s (c.states * d.states) h) (sight-lt _ _ (seen (omega arith)));
+    observation_out = λ s h. ap (seen_in c d x y) (no_state s h);
+    no_such_state = λ s a h. ap (led_from c d x y (mover_of c d a)) (no_state s h);
+    no_such_action = λ s a h. ap (λ m. led_from c d x y m (parts_of c d s)) (no_action a h) ∙ unmoved (parts_of c d s);
+  }
+
 -- a pair by any shape is a sound system
 pub by_shape_sound : (k : Shape) (x y : System) → Sound (by_shape k x y)
-by_shape_sound k x y = record {
-  few_actions = k.able;
-  few_observations = k.narrow;
-  few_states = k.few;
-  initial_in = product_lt c.states d.states x.initial y.initial;
-  goal_in = product_lt c.states d.states x.goal y.goal;
-  outcomes_in = λ s a. led-lt c d x y (mover_of c d a) (parts_of c d s);
-  observation_in = λ s h. rw (lt-ltb s (c.states * d.states) h) (sight-lt c d x y _ _ (k.seen (omega arith)));
-  observation_out = λ s h. ap (seen_in c d x y) (no_state c d x y s h);
-  no_such_state = λ s a h. ap (led_from c d x y (mover_of c d a)) (no_state c d x y s h);
-  no_such_action = λ s a h. ap (λ m. led_from c d x y m (parts_of c d s)) (no_action c d x y a h) ∙ unmoved c d x y (parts_of c d s);
-}
-  where
-    c : Counts
-    c = k.first
-
-    d : Counts
-    d = k.second
+by_shape_sound k x y = joined_sound k.first k.second x y k.able k.narrow k.few k.seen
 
 -- a pair of counts that are all zero is the empty environment
 none_joined : (x y : System) → joined none none x y ≡ empty

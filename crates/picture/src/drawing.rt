@@ -11,16 +11,23 @@ use controller::place::Place;
 use controller::table::Table;
 use environment::Environment;
 
+// Where the entry stands that a run reads at a configuration: for its memory and what is seen of its state.
+pub fn reading<E: Environment>(environment: &E, at: Configuration) -> Place
+    ensures memory { result.memory ≡ at.memory }
+    ensures observation { result.observation ≡ (E.Environment.meaning environment.now).observation at.state }
+{
+    Place {
+        memory: at.memory,
+        observation: environment.observation(at.state),
+    }
+}
+
 // What becomes of a run at a configuration.
 fn kind_of<E: Environment>(environment: &E, table: &Table, at: Configuration) -> Kind
     ensures value { result ≡ kind_of (E.Environment.meaning environment.now) table.now at.memory at.state }
     ensures reached { OfReached result }
 {
-    let read = Place {
-        memory: at.memory,
-        observation: environment.observation(at.state),
-    };
-    match table.entry(read) {
+    match table.entry(reading(environment, at)) {
         Entry::Blank => Kind::Open,
         Entry::Stop => {
             if environment.goal().contains(at.state) {

@@ -9,6 +9,7 @@ mod calls;
 mod drawing;
 pub mod settling;
 
+pub use crate::drawing::reading;
 pub use configurations::{Configuration, Configurations, MEMORIES, STATES};
 use sets::StateSet;
 
@@ -39,8 +40,9 @@ struct Step {
 }
 
 // A set of configurations for what is reached and one for each kind of it; a reached configuration that is in none of the other sets
-// moves. What a moving configuration (m, s) does stands at the place m * 64 + s of `steps`. The other places there hold what an earlier
-// picture left: drawing a picture does not clear them, and a kind is read by the sets first.
+// moves. What a moving configuration (m, s) does stands at the place m * 64 + s of `steps`, one array by numbers: of a row in an array of
+// rows no proof would know the length after a write. The other places there hold what an earlier picture left: drawing a picture does
+// not clear them, and a kind is read by the sets first.
 #[derive(Clone, Copy)]
 pub struct Picture {
     reached: Configurations,

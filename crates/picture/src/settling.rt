@@ -14,7 +14,7 @@ pub enum Quorum {
 
 impl Quorum {
     // Need a move with these outcomes wait no more, where `waiting` is what still waits at its next memory?
-    fn met(self, outcomes: StateSet, waiting: StateSet) -> bool
+    pub fn met(self, outcomes: StateSet, waiting: StateSet) -> bool
         ensures { MatchBool result (Met self outcomes waiting) (Unmet self outcomes waiting) }
     {
         match self {

@@ -4,7 +4,7 @@
 use std::io;
 use std::io::Read;
 
-// So many bytes are read, at most: no job file is longer.
+// So many bytes are read, at most: no job file that is accepted is longer.
 const MOST_BYTES: u64 = 4096;
 
 fn main(rt: HostRuntime) -> io::Result<()> {

@@ -24,6 +24,7 @@ fn worst_steps<E: Environment, R: FinishRule>(case: &Case<E, R>) -> Option<u32>
     requires { case.now.phase ≡ Found }
     ensures { MatchOption result (Straight case.now.picture → ⊥) (λ _. Straight case.now.picture) }
 {
+    // as many as the largest table has configurations
     let mut loads = [0; 256];
     case.worst(&Steps, &mut loads).ok()
 }

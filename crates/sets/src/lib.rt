@@ -109,7 +109,7 @@ impl StateSet {
         self.union(StateSet::only(state))
     }
 
-    // The set without the state in it.
+    // The set without the state in it. By the masks, and not by `without`: here it counts that no mask has a state past 63.
     pub fn except(self, state: u8) -> StateSet
         ensures { (t : ℕ) → has result t ≡ (has self t && not (state == t)) }
     {

@@ -5,7 +5,8 @@ ghost use Rattle.sets.specs.Mask.{Takes};
 use crate::StateSet;
 use std::marker::Model;
 
-// What is left of a set whose states are taken one by one, the smallest first.
+// What is left of a set whose states are taken one by one, the smallest first. Sets of configurations have an iterator of their own: one for
+// both would need a trait of sets, with its laws, for two short functions.
 #[derive(Clone, Copy, Debug, Drop)]
 pub struct States {
     left: StateSet,

@@ -29,12 +29,12 @@ place_then n p f h = let b = bit_then n p f h in omega arith
 arrival-lt : (n p f : ℕ) → f < 2 → p < n → arrival_at n p f < 2 * n
 arrival-lt n p f h l = let b = bit_then n p f h in omega arith
 
--- no state of a shuttle is past what a set can hold
-pub arrival_few : (n s p : ℕ) → is_state n s ≡ true → p < n → arrival_at n p (bit_of s) < 64
-arrival_few n s p here l =
-    let h = and_parts (is_row n) (nat_lt s (2 * n)) here in
-    let k = leb-true n 32 (and_parts (nat_le 2 n) (nat_le n 32) h.0).1 in
-    omega (arith, arrival-lt n p (bit_of s) (bit-lt s) l)
+-- no state of a shuttle that runs is past what a set can hold
+pub arrival_few : (n p f r : ℕ) → is_row n ≡ true → f < 2 → p < n → r ≡ arrival_at n p f → r < 64
+arrival_few n p f r row h l e = let k = leb-true n 32 (and_parts (nat_le 2 n) (nat_le n 32) row).1 in let q = arrival-lt n p f h l in omega arith
+
+pub arrival_in : (n s p : ℕ) → is_state n s ≡ true → p < n → arrival_at n p (bit_of s) < 64
+arrival_in n s p here l = arrival_few n p (bit_of s) _ (and_parts (is_row n) (nat_lt s (2 * n)) here).0 (bit-lt s) l refl
 
 -- the bit as a truth value
 pub bit_back : (s : ℕ) → cond (bit_of s == 1) 1 0 ≡ bit_of s

@@ -41,7 +41,7 @@ impl<E: Environment, R: FinishRule> Case<E, R> {
     fn admit_begin(&self, bound: u8) -> Result<(), Refusal>
         ensures { result ≡ admitted (refusal (E.Environment.meaning self.now.environment) New (beginning bound)) }
     {
-        if bound == 0 || bound > MOST_MEMORIES {
+        if !(1..=MOST_MEMORIES).contains(&bound) {
             return Err(Refusal::Bound);
         }
         if self.environment.states() == 0 || self.environment.initial().is_empty() {
@@ -66,7 +66,7 @@ impl<E: Environment, R: FinishRule> Case<E, R> {
             (Phase::New, Call::Advance { .. } | Call::Next) => Err(Refusal::NotBegun),
             (_, Call::Bar { .. } | Call::Begin { .. }) => Err(Refusal::AlreadyBegun),
             (Phase::Searching, Call::Advance { amount }) => {
-                if amount == 0 || amount > LARGEST_AMOUNT {
+                if !(1..=LARGEST_AMOUNT).contains(&amount) {
                     Err(Refusal::Amount)
                 } else {
                     Ok(())
@@ -78,7 +78,7 @@ impl<E: Environment, R: FinishRule> Case<E, R> {
         }
     }
 
-    // Bars an action at an observation, while the case is new; it may be barred already.
+    // Bars an action at an observation, while the case is new; it may be barred already. Two numbers, as the call is laid down.
     pub fn bar(&mut self, observation: u8, action: u8) -> Result<(), Refusal>
         ensures { Answers (E.Environment.meaning self.old.environment) (barring observation action) (λ _. Barred observation action) self.old self.new result }
     {

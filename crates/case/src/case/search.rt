@@ -4,9 +4,9 @@ ghost use Rattle.case.specs.declared.case.Call.TheVariants.{Advance as advancing
 ghost use Rattle.case.specs.declared.case.Phase.TheVariants.{Searching};
 
 use crate::case::{Advance, Call, Case, Phase};
-use controller::place::Place;
 use environment::Environment;
 use finish::FinishRule;
+use picture::reading;
 use refusals::Refusal;
 
 impl<E: Environment, R: FinishRule> Case<E, R> {
@@ -34,11 +34,7 @@ impl<E: Environment, R: FinishRule> Case<E, R> {
         match self.picture.first_open() {
             None => self.phase = Phase::Found,
             Some(open) => {
-                let entry = Place {
-                    memory: open.memory,
-                    observation: self.environment.observation(open.state),
-                };
-                if !self.walk.descend(entry) {
+                if !self.walk.descend(reading(&self.environment, open)) {
                     self.retreat();
                 }
             }

@@ -48,6 +48,7 @@ impl Model {
         ensures accepted { judge sheet.now ≡ Ok tt → Says sheet.now (system_of result) }
         ensures refused { (f : SheetFault) → judge sheet.now ≡ Err f → system_of result ≡ empty_environment }
     {
+        // a match: `unwrap_or_else` was tried, and the check could not build its plan for it
         match Model::read(sheet) {
             Ok(model) => model,
             Err(_) => Model::empty(),

@@ -40,7 +40,7 @@ impl Walk {
         self.trail.last().copied()
     }
 
-    // To the parent: the place that was filled last is blank again. At the root nothing changes.
+    // To the parent: the place that was filled last is blank again.
     fn ascend(&mut self)
         ensures { 0 < length self.old.trail.items → Ascended self.old self.new }
     {

@@ -1,4 +1,6 @@
-ghost use Rattle.std.specs.Prelude.{◌≡◌, ℕ, ◌+◌, ◌*◌, ◌<◌, ◌≤◌, List, [], length, Err};
+ghost use Rattle.std.specs.Prelude.{◌≡◌, ℕ, ◌+◌, ◌*◌, ◌<◌, ◌≤◌, List, [], length, Ok, Err, if◌then◌else◌};
+ghost use Rattle.refusals.specs.Range.{outside};
+ghost use Rattle.refusals.specs.declared.Refusal.TheVariants.{Count};
 ghost use Rattle.modelsheet.specs.Judge.{Judged, fault_of, refuse, judge_header, judge_sets, judge_sights, judge_record, judge_chain, judge_head, judge_heads};
 ghost use Rattle.modelsheet.specs.Laid.{Laid, SetsRead, SightsRead, Marks, RecordRead, ChainRead, HeadsRead};
 ghost use Rattle.modelsheet.specs.Sheet.{states_of, actions_of, records_of, head_of, word};
@@ -71,6 +73,17 @@ fn sheet_fault(refusal: Refusal, byte: usize) -> SheetFault
     SheetFault::Sheet(Fault { refusal, byte })
 }
 
+// A count of the header, at its byte, is 1 to the most that there may be.
+fn judge_count(count: u8, most: u8, byte: usize) -> Result<(), SheetFault>
+    ensures { result ≡ (if outside most count then refuse Count byte else Ok tt) }
+{
+    if (1..=most).contains(&count) {
+        Ok(())
+    } else {
+        Err(sheet_fault(Refusal::Count, byte))
+    }
+}
+
 // A fault of the chain of a head.
 fn chain_fault(head: Head, refusal: Refusal, byte: usize) -> ChainFault
     ensures { result ≡ fault_of head.state head.action refusal byte }
@@ -127,15 +140,9 @@ impl<'a> Sheet<'a> {
             observations: bytes[3],
             records: bytes[4],
         };
-        if !(1..=MOST_STATES).contains(&shape.states) {
-            return Err(sheet_fault(Refusal::Count, 1));
-        }
-        if !(1..=MOST_ACTIONS).contains(&shape.actions) {
-            return Err(sheet_fault(Refusal::Count, 2));
-        }
-        if !(1..=MOST_OBSERVATIONS).contains(&shape.observations) {
-            return Err(sheet_fault(Refusal::Count, 3));
-        }
+        judge_count(shape.states, MOST_STATES, 1)?;
+        judge_count(shape.actions, MOST_ACTIONS, 2)?;
+        judge_count(shape.observations, MOST_OBSERVATIONS, 3)?;
         if bytes.len() != shape.length() {
             return Err(sheet_fault(Refusal::Length, bytes.len()));
         }

@@ -22,7 +22,7 @@ impl Model for Configurations {
     ghost inverse = { λ l. record { states = l } };
 }
 
-// What is left of a set whose configurations are taken one by one, by their numbers.
+// What is left of a set whose configurations are taken one by one, by their numbers. An iterator of its own, as that of sets of states is.
 #[derive(Clone, Copy, Debug, Drop)]
 pub struct InOrder {
     left: Configurations,

@@ -8,8 +8,8 @@ pub use crate::model::read::says_one_system;
 use sets::StateSet;
 
 // The environment of a model sheet: what was read of the sheet, with the outcome sets made, so that a question costs no walk of a
-// chain. The outcome set of a state and an action stands at state * actions + action; places past the last are not used. Arrays, since an environment takes no memory but its
-// own, and may be copied; how much of them is used are the counts of the model.
+// chain. The outcome set of a state and an action stands at state * actions + action; places past the last are not used. Arrays, since
+// an environment takes no memory but its own, and may be copied; how much of them is used are the counts of the model.
 #[derive(Clone, Copy)]
 pub struct Model {
     states: u8,

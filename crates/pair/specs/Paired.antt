@@ -1,5 +1,5 @@
 -- A pair is a sound system, and it is the two parts side by side.
--- Lemmas alone, which the proof of a law rests on; no contract speaks of them.
+-- Lemmas, and what only they use, which the proof of a law rests on; no contract speaks of them.
 use Rattle.std.specs.Prelude.{◌≡◌, ℕ, ◌+◌, ◌-◌, ◌*◌, ◌/◌, ◌%◌, ◌^◌, ◌<◌, ◌≤◌, ◌≢◌, ◌&&◌, Some, None, Option, nat_lt, refl}
 use mathlib.Core.HLevel.{Π_prop, is_prop→PathP}
 use Rattle.std.proofs.Math.Path.{sym}

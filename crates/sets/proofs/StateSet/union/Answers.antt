@@ -1,5 +1,4 @@
 use Rattle.std.proofs.lemmas.Nat.{or_lt}
-use Rattle.sets.proofs.Bits.{has_union}
 use Rattle.sets.proofs.StateSet.union.Goals as goal
 
 pub invariant_of-result : goal.invariant_of-result

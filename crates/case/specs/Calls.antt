@@ -11,6 +11,7 @@ use Rattle.measure.specs.Refused.{size, Loaded, Refused}
 use Rattle.picture.specs.Drawn.{PictureOf}
 use Rattle.picture.specs.Kinds.{is_open}
 use Rattle.tree.specs.Bars.{barred_at}
+use Rattle.tree.specs.Trails.{places_of}
 use Rattle.tree.specs.Walks.{Back}
 use Rattle.case.specs.declared.case.Phase.{Phase}
 use Rattle.case.specs.declared.case.Phase.TheVariants.{New, Searching, Found, Exhausted}
@@ -104,7 +105,7 @@ module _ {E R : Type 0} where
     pub actions : after.walk.table.actions ≡ x.actions
     pub observations : after.walk.table.observations ≡ x.observations
     pub root : after.walk.table.entries ≡ replicate 64 Blank
-    pub fresh : after.walk.trail.items ≡ []
+    pub fresh : places_of after.walk.trail ≡ []
 
   -- what stays over an advance and a next: the table too has as many memories, over one alphabet
   pub record Kept (before after : Case E R) : Type 0 where

@@ -1,3 +1,4 @@
 pub mod Bars
 pub mod Choices
+pub mod Trails
 pub mod Walks

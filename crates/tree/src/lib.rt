@@ -3,4 +3,5 @@
 
 pub mod bars;
 pub mod choices;
+mod trail;
 pub mod walk;

@@ -1,11 +1,12 @@
 ghost use Rattle.std.specs.Prelude.{◌≡◌, ◌<◌, [], length, MatchOption};
 ghost use Rattle.controller.specs.Tables.{SameCounts};
+ghost use Rattle.tree.specs.Trails.{places_of};
 ghost use Rattle.tree.specs.Walks.{Ascended, Back, Descended, Root, last_place};
 
 use crate::bars::Bars;
 use crate::choices::following;
+use crate::trail::Trail;
 use crate::walk::Walk;
-use arrayvec::ArrayVec;
 use controller::entry::Entry;
 use controller::place::Place;
 use controller::table::Table;
@@ -17,7 +18,7 @@ impl Walk {
     {
         Walk {
             table: Table::blank(memories, actions, observations),
-            trail: ArrayVec::new(),
+            trail: Trail::new(),
         }
     }
 
@@ -26,7 +27,7 @@ impl Walk {
     pub fn descend(&mut self, at: Place) -> bool
         ensures { Descended at self.old self.new result }
     {
-        if self.trail.try_push(at).is_err() {
+        if !self.trail.push(at) {
             return false;
         }
         self.table.set(at, Entry::Stop);
@@ -35,14 +36,14 @@ impl Walk {
 
     // The place that was filled last; none at the root.
     fn last(&self) -> Option<Place>
-        ensures { MatchOption result (self.now.trail.items ≡ []) (λ p. (0 < length self.now.trail.items) × (p ≡ last_place self.now)) }
+        ensures { MatchOption result (places_of self.now.trail ≡ []) (λ p. (0 < length (places_of self.now.trail)) × (p ≡ last_place self.now)) }
     {
-        self.trail.last().copied()
+        self.trail.last()
     }
 
     // To the parent: the place that was filled last is blank again.
     fn ascend(&mut self)
-        ensures { 0 < length self.old.trail.items → Ascended self.old self.new }
+        ensures { 0 < length (places_of self.old.trail) → Ascended self.old self.new }
     {
         if let Some(at) = self.trail.pop() {
             self.table.set(at, Entry::Blank);

@@ -46,8 +46,10 @@ impl<E: Environment, R: FinishRule> Case<E, R> {
         ensures { Answers (E.Environment.meaning self.old.environment) (advancing amount) (λ a. Advanced (E.Environment.meaning self.old.environment) amount a) self.old self.new result }
     {
         self.admit(Call::Advance { amount })?;
-        for judged in 1..=amount {
+        let mut judged = 0;
+        'tables: for _ in 0..amount {
             self.judge();
+            judged += 1;
             if self.phase != Phase::Searching {
                 return Ok(Advance {
                     phase: self.phase,
@@ -57,7 +59,7 @@ impl<E: Environment, R: FinishRule> Case<E, R> {
         }
         Ok(Advance {
             phase: self.phase,
-            judged: amount,
+            judged,
         })
     }
 

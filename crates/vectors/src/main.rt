@@ -1,7 +1,7 @@
 // Runs many job files: each line of standard input is one, in hexadecimal, and its report is printed, with an empty line after it.
 #![tactic(auto)]
 
-ghost use Rattle.std.specs.Prelude.{◌<◌, ◌≤◌, IfOk, vec_len};
+ghost use Rattle.std.specs.Prelude.{◌<◌, ◌≤◌, length, IfOk};
 
 use anyhow::anyhow;
 use std::alloc::Global;
@@ -20,21 +20,24 @@ fn digit(byte: u8) -> anyhow::Result<u8>
     }
 }
 
-// The bytes of a line of hexadecimal digits, two for each.
-fn decode(heap: Global, line: &str) -> anyhow::Result<Vec<u8>>
-    ensures { IfOk result (λ file. vec_len file ≤ 4096) }
+// Decodes as many pairs of hexadecimal digits of a line as the buffer has bytes; answers how many. A buffer and no vector: nothing is
+// allocated for it.
+fn decode(line: &str, file: &mut [u8]) -> anyhow::Result<usize>
+    ensures { IfOk result (λ n. n ≤ length file.new) }
 {
-    let mut file = Vec::new(heap);
-    for pair in line.as_bytes().chunks_exact(2).take(MOST_BYTES) {
-        file.push(digit(pair[0])? * 16 + digit(pair[1])?)?;
+    let mut length = 0;
+    for pair in line.as_bytes().chunks_exact(2).take(file.len()) {
+        file[length] = digit(pair[0])? * 16 + digit(pair[1])?;
+        length += 1;
     }
-    Ok(file)
+    Ok(length)
 }
 
 // The report of one job file.
 fn answer(heap: Global, line: &str) -> anyhow::Result<String> {
-    let file = decode(heap, line)?;
-    Ok(report::report(heap, &planner::solve(&file))?)
+    let mut file = [0; MOST_BYTES];
+    let length = decode(line, &mut file)?;
+    Ok(report::report(heap, &planner::solve(&file[..length]))?)
 }
 
 fn main(rt: HostRuntime) -> anyhow::Result<()> {

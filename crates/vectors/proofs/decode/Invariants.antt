@@ -1,6 +1,6 @@
-use Rattle.std.proofs.Common.{◌+◌, ◌≤◌, vec_len}
+use Rattle.std.proofs.Common.{◌+◌, ◌≤◌, length}
 use Rattle.vectors.proofs.decode.Given as goal
 
--- what is decoded and what may still come is no more than is read
+-- for what may still come there is room
 abbrev pub invariant-loop-pair : goal.invariant-loop-pair
-invariant-loop-pair l = vec_len l.file + l.pair-iterator.n ≤ 4096
+invariant-loop-pair l = l.length + l.pair-iterator.n ≤ length l.file

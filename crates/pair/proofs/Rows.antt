@@ -38,8 +38,9 @@ module _ (h w p q rows row left part : ℕ) (f : Framed h w p q rows row) (in_ro
   below : part < h
   below = ltb-true part h (and_parts (has p part) (nat_lt part h) (sym (f.rows_cut part) ∙ in_rows part least.here)).1
 
-  pub room : part * w ≤ 64
-  room = omega (arith, mul-le part w h w (omega (arith, below)) (omega arith), f.few)
+  -- there is room for the whole of its row
+  pub room : w + part * w ≤ 64
+  room = omega (arith, mul-le (suc part) w h w (omega (arith, below)) (omega arith), suc-mul part w, f.few)
 
   -- the second set, moved up to the row of this state
   module _ (moved : ℕ) (up : (t : ℕ) → has moved t ≡ (nat_lt t 64 && nat_le (part * w) t && has row (t - part * w))) where

@@ -1,23 +1,20 @@
 -- A pair is a sound system, and it is the two parts side by side.
 -- Lemmas, and what only they use, which the proof of a law rests on; no contract speaks of them.
 use Rattle.std.specs.Prelude.{◌≡◌, ℕ, ◌+◌, ◌-◌, ◌*◌, ◌/◌, ◌%◌, ◌^◌, ◌<◌, ◌≤◌, ◌≢◌, ◌&&◌, Some, None, Option, nat_lt, refl}
-use mathlib.Core.HLevel.{Π_prop, is_prop→PathP}
 use Rattle.std.proofs.Math.Path.{sym}
-use Rattle.std.proofs.Math.Bridge.{le_prop}
-use Rattle.std.proofs.Common.{ap, ap₂, subst, subst₂, ◌∙◌, inl, inr, arith, mul_comm, mul-zero}
-use Rattle.std.proofs.lemmas.Nat.{div_below, div-mul-add, mod_below, mod-mul-add, mul-add-lt, pow_pos}
+use Rattle.std.proofs.Common.{ap, ap₂, subst, subst₂, ◌∙◌, inl, inr, arith, mul_comm, mul-zero, zero-mul}
+use Rattle.std.proofs.lemmas.Nat.{div_below, div-mul-add, mod_below, mod-mul-add, mul-add-lt, mul-lt, pow_pos}
 use Rattle.std.proofs.lemmas.Bool.{cases_Bool, cases_lt, cases_eq, cond_both, cond-true, cond-false, lt-ltb, le-ltb, ltb-true, and_parts, and_right, and_from}
 use Rattle.sets.specs.Mask.{has, set_of, only}
 use Rattle.sets.proofs.Bits.{has_none, has_one}
 use Rattle.sets.proofs.Chosen.{chosen-lt, has_chosen, none_chosen}
 use Rattle.environment.specs.System.{System, Sound, empty}
 use Rattle.environment.proofs.Systems.{same_system}
-use Rattle.pair.specs.declared.shape.Counts.{Counts}
 use Rattle.pair.specs.declared.shape.Shape.{Shape}
 use Rattle.pair.specs.declared.shape.Parts.{Parts}
 use Rattle.pair.specs.declared.shape.Mover.{Mover}
 use Rattle.pair.specs.declared.shape.Mover.TheVariants.{First, Second}
-use Rattle.pair.specs.Numbering.{AreCounts, parts_of, mover_of, sight_of, seen_in, led_from, joined, by_shape, Shaped, none}
+use Rattle.pair.specs.Numbering.{Sizes, sizes_of, counts_of, AreCounts, Small, parts_of, mover_of, sight_of, seen_in, led_from, joined, by_shape, Shaped, none}
 use Rattle.pair.specs.Pairs.{product, beside, fits, SideBySide, PairOf}
 
 -- a product that is not 0 has a second factor that is not 0
@@ -36,7 +33,7 @@ product-has h w p q s1 s2 k l =
     has_chosen (h * w) _ (s1 * w + s2) ∙ ap (λ b. b && (has p ((s1 * w + s2) / w) && has q ((s1 * w + s2) % w))) (lt-ltb _ _ at)
     ∙ ap₂ (λ (x y : ℕ). has p x && has q y) (div-mul-add s1 w s2 l) (mod-mul-add s1 w s2 l)
 
-module _ (c d : Counts) (x y : System) where
+module _ (c d : Sizes) (x y : System) where
   led-lt : (m : Option Mover) (p : Option Parts) → led_from c d x y m p < 2 ^ (c.states * d.states)
   led-lt m None = pow_pos (c.states * d.states)
   led-lt None (Some p) = pow_pos (c.states * d.states)
@@ -79,7 +76,7 @@ module _ (c d : Counts) (x y : System) where
 
 -- a pair by any shape is a sound system
 pub by_shape_sound : (k : Shape) (x y : System) → Sound (by_shape k x y)
-by_shape_sound k x y = joined_sound k.first k.second x y k.able k.narrow k.few k.seen
+by_shape_sound k x y = joined_sound (sizes_of k.first) (sizes_of k.second) x y k.able k.narrow k.few k.seen
 
 -- a pair of counts that are all zero is the empty environment
 none_joined : (x y : System) → joined none none x y ≡ empty
@@ -89,36 +86,16 @@ none_joined x y =
     (λ s a. ap (led_from none none x y (mover_of none none a)) (no_state none none x y s (omega arith)))
 
 -- where a sound system has a state, it has an observation
-state_seen : (x : System) → Sound x → 0 < x.states → 0 < x.observations
+pub state_seen : (x : System) → Sound x → 0 < x.states → 0 < x.observations
 state_seen x law h = omega (arith, law.observation_in 0 h)
 
--- the counts of a sound system
-abbrev counts_of : (x : System) → Sound x → Counts
-counts_of x law = record {
-  actions = x.actions;
-  observations = x.observations;
-  states = x.states;
-  few_actions = law.few_actions;
-  few_observations = law.few_observations;
-  few_states = law.few_states;
-  seen = state_seen x law;
-}
-
 -- counts that are the system's are these
-counts_are : (x : System) (law : Sound x) (c : Counts) → AreCounts x c → c ≡ counts_of x law
-counts_are x law c h = λ i. record {
-  actions = h.actions_are i;
-  observations = h.observations_are i;
-  states = h.states_are i;
-  few_actions = is_prop→PathP (λ j. h.actions_are j ≤ 8) (λ j. le_prop) c.few_actions law.few_actions i;
-  few_observations = is_prop→PathP (λ j. h.observations_are j ≤ 16) (λ j. le_prop) c.few_observations law.few_observations i;
-  few_states = is_prop→PathP (λ j. h.states_are j ≤ 64) (λ j. le_prop) c.few_states law.few_states i;
-  seen = is_prop→PathP (λ j. 0 < h.states_are j → 0 < h.observations_are j) (λ j. Π_prop (λ _. le_prop)) c.seen (state_seen x law) i;
-}
+pub counts_are : (x : System) (c : Sizes) → AreCounts x c → c ≡ counts_of x
+counts_are x c h = λ i. record { actions = h.actions_are i; observations = h.observations_are i; states = h.states_are i }
 
 module _ (x y : System) (p : Sound x) (q : Sound y) where
   -- states and observations of the parts
-  at : (s1 s2 : ℕ) → s1 < x.states → s2 < y.states → parts_of (counts_of x p) (counts_of y q) (s1 * y.states + s2) ≡ Some (record { first = s1; second = s2 })
+  at : (s1 s2 : ℕ) → s1 < x.states → s2 < y.states → parts_of (counts_of x) (counts_of y) (s1 * y.states + s2) ≡ Some (record { first = s1; second = s2 })
   at s1 s2 h k =
       let lt : s1 * y.states + s2 < x.states * y.states = omega (arith, mul-add-lt s1 y.states s2 x.states h k, mul_comm y.states x.states) in
       cond-true (nat_lt (s1 * y.states + s2) (x.states * y.states)) _ None (lt-ltb _ _ lt)
@@ -132,10 +109,10 @@ module _ (x y : System) (p : Sound x) (q : Sound y) where
       (λ t l. and_right (has (only (s / y.states)) (t / y.states)) _ (ap (λ (z : ℕ). has z (t % y.states)) (q.no_such_action (s % y.states) (a - x.actions) (omega arith)) ∙ has_none (t % y.states))))
 
   -- by the parts' own counts the pair is what it is to be
-  joined_beside : joined (counts_of x p) (counts_of y q) x y ≡ beside x y
-  joined_beside = same_system (joined (counts_of x p) (counts_of y q) x y) (beside x y) refl refl refl refl refl seen led
+  joined_beside : joined (counts_of x) (counts_of y) x y ≡ beside x y
+  joined_beside = same_system (joined (counts_of x) (counts_of y) x y) (beside x y) refl refl refl refl refl seen led
     where
-      seen : (s : ℕ) → seen_in (counts_of x p) (counts_of y q) x y (parts_of (counts_of x p) (counts_of y q) s) ≡ (beside x y).observation s
+      seen : (s : ℕ) → seen_in (counts_of x) (counts_of y) x y (parts_of (counts_of x) (counts_of y) s) ≡ (beside x y).observation s
       seen s = elim (cases_lt s (x.states * y.states)) [
         | inl l ↦
             let w = wide x.states y.states (λ e. omega arith) in
@@ -145,7 +122,7 @@ module _ (x y : System) (p : Sound x) (q : Sound y) where
         | inr g ↦ rw (le-ltb s (x.states * y.states) g) refl
       ]
 
-      led : (s a : ℕ) → led_from (counts_of x p) (counts_of y q) x y (mover_of (counts_of x p) (counts_of y q) a) (parts_of (counts_of x p) (counts_of y q) s) ≡ (beside x y).outcomes s a
+      led : (s a : ℕ) → led_from (counts_of x) (counts_of y) x y (mover_of (counts_of x) (counts_of y) a) (parts_of (counts_of x) (counts_of y) s) ≡ (beside x y).outcomes s a
       led s a = elim (cases_lt s (x.states * y.states)) [
         | inl l ↦ rw (lt-ltb s (x.states * y.states) l) (elim (cases_lt a x.actions) [
           | inl m ↦ rw (lt-ltb a x.actions m) refl
@@ -157,7 +134,7 @@ module _ (x y : System) (p : Sound x) (q : Sound y) where
         | inr g ↦ rw (le-ltb s (x.states * y.states) g) refl
       ]
 
-  by_parts : SideBySide x y (joined (counts_of x p) (counts_of y q) x y)
+  by_parts : SideBySide x y (joined (counts_of x) (counts_of y) x y)
   by_parts = record {
     actions_are = refl;
     observations_are = refl;
@@ -165,39 +142,53 @@ module _ (x y : System) (p : Sound x) (q : Sound y) where
     begins = λ s1 s2 h k. product-has x.states y.states x.initial y.initial s1 s2 h k;
     stops = λ s1 s2 h k. product-has x.states y.states x.goal y.goal s1 s2 h k;
     sees =
-        λ s1 s2 h k. ap (seen_in (counts_of x p) (counts_of y q) x y) (at s1 s2 h k)
+        λ s1 s2 h k. ap (seen_in (counts_of x) (counts_of y) x y) (at s1 s2 h k)
         ∙ cond-true (nat_lt (x.observation s1) x.observations && nat_lt (y.observation s2) y.observations) _ 0
         (and_from _ _ (lt-ltb _ _ (p.observation_in s1 h)) (lt-ltb _ _ (q.observation_in s2 k)));
     first_moves =
-        λ s1 s2 a t1 t2 h k l m n. ap (λ (z : ℕ). has z (t1 * y.states + t2)) (ap₂ (led_from (counts_of x p) (counts_of y q) x y) (by_first a n) (at s1 s2 h k))
+        λ s1 s2 a t1 t2 h k l m n. ap (λ (z : ℕ). has z (t1 * y.states + t2)) (ap₂ (led_from (counts_of x) (counts_of y) x y) (by_first a n) (at s1 s2 h k))
         ∙ product-has x.states y.states (x.outcomes s1 a) (only s2) t1 t2 l m ∙ ap (λ b. has (x.outcomes s1 a) t1 && b) (has_one s2 t2);
     second_moves =
-        λ s1 s2 a t1 t2 h k l m n. ap (λ (z : ℕ). has z (t1 * y.states + t2)) (ap₂ (led_from (counts_of x p) (counts_of y q) x y) (by_second a n) (at s1 s2 h k))
+        λ s1 s2 a t1 t2 h k l m n. ap (λ (z : ℕ). has z (t1 * y.states + t2)) (ap₂ (led_from (counts_of x) (counts_of y) x y) (by_second a n) (at s1 s2 h k))
         ∙ product-has x.states y.states (only s1) (y.outcomes s2 a) t1 t2 l m ∙ ap (λ b. b && has (y.outcomes s2 a) t2) (has_one s1 t1);
   }
     where
-      by_first : (a : ℕ) → a < x.actions → mover_of (counts_of x p) (counts_of y q) a ≡ Some (First a)
+      by_first : (a : ℕ) → a < x.actions → mover_of (counts_of x) (counts_of y) a ≡ Some (First a)
       by_first a h = cond-true (nat_lt a x.actions) _ _ (lt-ltb a x.actions h)
 
-      by_second : (a : ℕ) → a < y.actions → mover_of (counts_of x p) (counts_of y q) (x.actions + a) ≡ Some (Second a)
+      by_second : (a : ℕ) → a < y.actions → mover_of (counts_of x) (counts_of y) (x.actions + a) ≡ Some (Second a)
       by_second a h =
           let e : x.actions + a - x.actions ≡ a = omega arith in
           cond-false (nat_lt (x.actions + a) x.actions) _ _ (le-ltb _ _ (omega arith))
           ∙ cond-true (nat_lt (x.actions + a) (x.actions + y.actions)) _ None (lt-ltb _ _ (omega arith)) ∙ ap (λ (n : ℕ). Some (Second n)) e
 
-  paired_by : (f s : Counts) → Shaped (counts_of x p) (counts_of y q) f s → PairOf x y (joined f s x y)
+  pub paired_by : (f s : Sizes) → Shaped (counts_of x) (counts_of y) f s → PairOf x y (joined f s x y)
   paired_by f s shaped = elim (cases_Bool (fits x y)) [
     | inl yes-fits ↦
-        let ef : f ≡ counts_of x p = shaped.first_is ∙ cond-true (fits x y) _ none yes-fits in
-        let es : s ≡ counts_of y q = shaped.second_is ∙ cond-true (fits x y) _ none yes-fits in
-        let e : joined f s x y ≡ joined (counts_of x p) (counts_of y q) x y = ap₂ (λ (c d : Counts). joined c d x y) ef es in
+        let ef : f ≡ counts_of x = shaped.first_is ∙ cond-true (fits x y) _ none yes-fits in
+        let es : s ≡ counts_of y = shaped.second_is ∙ cond-true (fits x y) _ none yes-fits in
+        let e : joined f s x y ≡ joined (counts_of x) (counts_of y) x y = ap₂ (λ (c d : Sizes). joined c d x y) ef es in
         record { is = e ∙ joined_beside ∙ sym (cond-true (fits x y) (beside x y) empty yes-fits); parts = rw yes-fits (subst (SideBySide x y) (sym e) by_parts) }
     | inr no-fit ↦
-        let ef : f ≡ none = shaped.first_is ∙ cond-false (fits x y) (counts_of x p) none no-fit in
-        let es : s ≡ none = shaped.second_is ∙ cond-false (fits x y) (counts_of y q) none no-fit in
-        let e : joined f s x y ≡ empty = ap₂ (λ (c d : Counts). joined c d x y) ef es ∙ none_joined x y in
+        let ef : f ≡ none = shaped.first_is ∙ cond-false (fits x y) (counts_of x) none no-fit in
+        let es : s ≡ none = shaped.second_is ∙ cond-false (fits x y) (counts_of y) none no-fit in
+        let e : joined f s x y ≡ empty = ap₂ (λ (c d : Sizes). joined c d x y) ef es ∙ none_joined x y in
         record { is = e ∙ sym (cond-false (fits x y) (beside x y) empty no-fit); parts = rw no-fit e }
   ]
 
-  pub paired : (c d f s : Counts) → AreCounts x c → AreCounts y d → Shaped c d f s → PairOf x y (joined f s x y)
-  paired c d f s m n shaped = paired_by f s (subst₂ (λ (k l : Counts). Shaped k l f s) (counts_are x p c m) (counts_are y q d n) shaped)
+  pub paired : (c d f s : Sizes) → AreCounts x c → AreCounts y d → Shaped c d f s → PairOf x y (joined f s x y)
+  paired c d f s m n shaped = paired_by f s (subst₂ (λ (k l : Sizes). Shaped k l f s) (counts_are x c m) (counts_are y d n) shaped)
+
+-- the counts of a sound system
+pub small : (x : System) → Sound x → Small (counts_of x)
+small x law = record { few_actions = law.few_actions; few_observations = law.few_observations; few_states = law.few_states; seen = state_seen x law }
+
+-- where both parts have a state, both have an observation
+pub both_seen : (c d : Sizes) → Small c → Small d → 0 < c.states * d.states → 0 < c.observations * d.observations
+both_seen c d p q some = mul-lt 0 0 c.observations d.observations (p.seen (left c.states d.states some)) (q.seen (right c.states d.states some))
+  where
+    left : (m n : ℕ) → 0 < m * n → 0 < m
+    left m n h = elim (cases_eq m 0) [ inl e ↦ absurd (omega (arith, subst (λ (k : ℕ). 0 < k * n) e h, zero-mul n)) | inr ne ↦ omega arith ]
+
+    right : (m n : ℕ) → 0 < m * n → 0 < n
+    right m n h = left n m (subst (λ (k : ℕ). 0 < k) (mul_comm m n) h)

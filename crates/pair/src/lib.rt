@@ -2,7 +2,7 @@
 #![tactic(auto)]
 
 ghost use Rattle.std.specs.Prelude.{◌≡◌, ◌+◌, ◌*◌};
-ghost use Rattle.pair.specs.Numbering.{by_shape, AreCounts};
+ghost use Rattle.pair.specs.Numbering.{by_shape, sizes_of, AreCounts};
 ghost use Rattle.pair.specs.Pairs.{PairOf};
 ghost use Rattle.pair.specs.Paired.{by_shape_sound};
 ghost use Rattle.std.proofs.Common.{rules};
@@ -25,7 +25,7 @@ pub struct Pair<E, F> {
 
 // The counts of an environment.
 fn counts<E: Environment>(environment: &E) -> Counts
-    ensures { AreCounts (E.Environment.meaning environment.now) result }
+    ensures { AreCounts (E.Environment.meaning environment.now) (sizes_of result) }
 {
     Counts {
         actions: environment.actions(),

@@ -1,5 +1,5 @@
 ghost use Rattle.std.specs.Prelude.{◌≡◌, ◌+◌, ◌*◌, ◌&&◌, nat_le};
-ghost use Rattle.pair.specs.Numbering.{parts_of, mover_of, sight_of, Shaped};
+ghost use Rattle.pair.specs.Numbering.{sizes_of, parts_of, mover_of, sight_of, Shaped};
 ghost use Rattle.pair.specs.Pairs.{product as product_of};
 
 use crate::shape::{Counts, Mover, Parts, Shape};
@@ -27,7 +27,7 @@ fn within_limits(first: Counts, second: Counts) -> bool
 impl Shape {
     // The shape of a pair of parts with these counts; that of no pair, all zero, if a part is empty or a count passes its limit.
     pub(crate) fn of(first: Counts, second: Counts) -> Shape
-        ensures { Shaped first second result.first result.second }
+        ensures { Shaped (sizes_of first) (sizes_of second) (sizes_of result.first) (sizes_of result.second) }
     {
         if first == NONE || second == NONE || !within_limits(first, second) {
             return Shape {
@@ -58,7 +58,7 @@ impl Shape {
 
     // The parts of a state, if it is one of the pair.
     pub(crate) fn parts(&self, state: u8) -> Option<Parts>
-        ensures { result ≡ parts_of self.now.first self.now.second state }
+        ensures { result ≡ parts_of (sizes_of self.now.first) (sizes_of self.now.second) state }
     {
         if state < self.states() {
             Some(Parts {
@@ -72,7 +72,7 @@ impl Shape {
 
     // The part that an action moves, if it is one of the pair.
     pub(crate) fn mover(&self, action: u8) -> Option<Mover>
-        ensures { result ≡ mover_of self.now.first self.now.second action }
+        ensures { result ≡ mover_of (sizes_of self.now.first) (sizes_of self.now.second) action }
     {
         if action < self.first.actions {
             Some(Mover::First(action))
@@ -85,7 +85,7 @@ impl Shape {
 
     // The observation of a state whose parts have these; 0 for one that a part does not have.
     pub(crate) fn sight(&self, first: u8, second: u8) -> u8
-        ensures { result ≡ sight_of self.now.first self.now.second first second }
+        ensures { result ≡ sight_of (sizes_of self.now.first) (sizes_of self.now.second) first second }
     {
         if first < self.first.observations && second < self.second.observations {
             first * self.second.observations + second

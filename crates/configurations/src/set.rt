@@ -1,25 +1,15 @@
-ghost use Rattle.std.specs.Prelude.{◌≡◌, ℕ, List, length};
+ghost use Rattle.std.specs.Prelude.{ℕ, List};
 
 use crate::MEMORIES;
-use sets::StateSet;
 use std::marker::Model;
 
 mod calls;
 
-// A set of configurations: for each memory a set of states. A clause sees the list of their masks.
+// A set of configurations: for each memory the mask of a set of states. A plain struct with no model, so that what holds one, as a picture,
+// is copied like any other value.
 #[derive(Clone, Copy, Debug, PartialEq, Eq)]
 pub struct Configurations {
-    states: [StateSet; MEMORIES],
-}
-
-impl Model for Configurations {
-    ghost Value = { List ℕ };
-
-    ghost view = { λ c. c.states };
-
-    ghost invariant = { λ c. length c.states ≡ 4 };
-
-    ghost inverse = { λ l. record { states = l } };
+    states: [u64; MEMORIES],
 }
 
 // What is left of a set whose configurations are taken one by one, by their numbers. An iterator of its own, as that of sets of states is.
@@ -31,7 +21,7 @@ pub struct InOrder {
 impl Model for InOrder {
     ghost Value = { List ℕ };
 
-    ghost view = { λ c. c.left };
+    ghost view = { λ c. c.left.states };
 
-    ghost inverse = { λ l. record { left = l } };
+    ghost inverse = { λ l. record { left = record { states = l } } };
 }

@@ -43,15 +43,20 @@ impl<M: Measure, E: Environment> Runs<'_, M, E> {
         requires states { states < 2 ^ (E.Environment.meaning self.now.environment.now).states }
         requires room { size (E.Environment.meaning self.now.environment.now) self.now.table.now ≤ length loads.now }
     {
+        // the environment is asked for its states once, and not for each outcome
+        let base = self.place(Configuration { memory, state: 0 });
         let mut greatest = None;
         for state in states.states() {
-            let load = loads[self.place(Configuration { memory, state })];
+            let load = loads[base + state as usize];
             greatest = match greatest {
                 Some(most) if self.measure.at_most(load, most) => Some(most),
                 _ => Some(load),
             };
         }
-        greatest.unwrap_or(self.measure.empty())
+        match greatest {
+            Some(most) => most,
+            None => self.measure.empty(),
+        }
     }
 
     // The load from a configuration, where those that it leads to have theirs.
@@ -70,12 +75,15 @@ impl<M: Measure, E: Environment> Runs<'_, M, E> {
 
     // The first configuration that waits and none of whose outcomes waits.
     fn ready(&self, waiting: &Configurations) -> Option<Configuration>
-        ensures { IfSome result (λ c. holds waiting.now c.memory c.state ≡ true) }
+        ensures { IfSome result (λ c. (c.memory < 4) × (holds waiting.now.states c.memory c.state ≡ true)) }
     {
-        for at in waiting.in_order() {
-            if let Kind::Moving { next, outcomes } = self.picture.kind(at) {
-                if Quorum::Every.met(outcomes, waiting.at(next)) {
-                    return Some(at);
+        for memory in 0..self.table.memories() {
+            for state in waiting.at(memory).states() {
+                let at = Configuration { memory, state };
+                if let Kind::Moving { next, outcomes } = self.picture.kind(at) {
+                    if Quorum::Every.met(StateSet::from(outcomes), waiting.at(next)) {
+                        return Some(at);
+                    }
                 }
             }
         }
@@ -84,7 +92,7 @@ impl<M: Measure, E: Environment> Runs<'_, M, E> {
 
     // The configurations of the table that move in the picture.
     fn moving(&self) -> Configurations
-        ensures { (m s : ℕ) → holds result m s ≡ (is_moving self.now.picture.now m s && (nat_lt m self.now.table.now.memories && nat_lt s (E.Environment.meaning self.now.environment.now).states)) }
+        ensures { (m s : ℕ) → holds result.states m s ≡ (is_moving self.now.picture.now m s && (nat_lt m self.now.table.now.memories && nat_lt s (E.Environment.meaning self.now.environment.now).states)) }
     {
         let all = StateSet::below(self.environment.states());
         let drawn = self.picture.moving();

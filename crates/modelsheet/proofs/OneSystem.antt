@@ -1,8 +1,8 @@
--- The bytes of a sheet say one system.
-use Rattle.std.proofs.Common.{◌≡◌, ℕ, List, sym, ◌∙◌, inl, inr, arith}
-use Rattle.std.proofs.lemmas.Bool.{cases_lt}
+-- The bytes of a sheet say one system, and a model without states is the empty one.
+use Rattle.std.proofs.Common.{◌≡◌, ℕ, ◌+◌, ◌*◌, cond, ◌&&◌, ltb, List, get_or, sym, refl, ◌∙◌, inl, inr, arith}
+use Rattle.std.proofs.lemmas.Bool.{cases_lt, cond-false, le-ltb, and_left}
 use Rattle.std.proofs.lemmas.Bool.Decides.{same_from_decides}
-use Rattle.environment.specs.System.{System, Sound}
+use Rattle.environment.specs.System.{System, Sound, empty}
 use Rattle.environment.proofs.Systems.{same_system}
 use Rattle.sets.specs.Mask.{has}
 use Rattle.sets.proofs.Bits.{same_set}
@@ -31,3 +31,17 @@ module _ (b : List ℕ) (x y : System) (p : Sound x) (q : Sound y) (h : Says b x
   one_system =
       same_system x y (h.actions_are ∙ sym k.actions_are) (h.observations_are ∙ sym k.observations_are) (h.states_are ∙ sym k.states_are)
       (h.initial_is ∙ sym k.initial_is) (h.goal_is ∙ sym k.goal_is) seen led
+
+-- what the system of a model without states, actions and observations is, whatever stands in its arrays
+pub empty_system : (seen leads : List ℕ) → ◌≡◌ {A = System} (record {
+  actions = 0;
+  observations = 0;
+  states = 0;
+  initial = 0;
+  goal = 0;
+  observation = λ s. cond (ltb s 0) (get_or seen s 0) 0;
+  outcomes = λ s a. cond (ltb s 0 && ltb a 0) (get_or leads (s * 0 + a) 0) 0;
+}) empty
+empty_system seen leads =
+    same_system _ empty refl refl refl refl refl (λ s. cond-false (ltb s 0) _ 0 (le-ltb s 0 (omega arith)))
+    (λ s a. cond-false (ltb s 0 && ltb a 0) _ 0 (and_left (ltb s 0) (ltb a 0) (le-ltb s 0 (omega arith))))

@@ -36,12 +36,12 @@ module _ (all done rest : List ℕ) (made : (m s : ℕ) → holds rest m s ≡ (
   ]
 
 -- each configuration more leaves fewer that are not reached
-pub fewer_left : (p q : Picture) (m s : ℕ) (k : Kind) → m < 4 → is_reached p m s ≡ false → Put m s k p q → 4 * 2 ^ 64 - weight q.reached < 4 * 2 ^ 64 - weight p.reached
+pub fewer_left : (p q : Picture) (m s : ℕ) (k : Kind) → m < 4 → is_reached p m s ≡ false → Put m s k p q → 4 * 2 ^ 64 - weight q.reached.states < 4 * 2 ^ 64 - weight p.reached.states
 fewer_left p q m s k lt fresh put =
     omega (
       arith,
-      weight-lt p.reached q.reached (λ n t h. put.reached n t ∙ or_left _ _ h) m s lt fresh (put.reached m s ∙ or_right _ _ (same_self m s)),
-      weight_bounded q.reached (λ n t h. (q.bounded n t h).1),
+      weight-lt p.reached.states q.reached.states (λ n t h. put.reached n t ∙ or_left _ _ h) m s lt fresh (put.reached m s ∙ or_right _ _ (same_self m s)),
+      weight_bounded q.reached.states (λ n t h. (q.bounded n t h).1),
     )
 
 -- What is marked comes up in runs, the starts are marked; what is drawn is marked and has its kind, and its outcomes are marked.

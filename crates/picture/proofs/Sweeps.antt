@@ -30,6 +30,10 @@ pub none_waits : (c : List ℕ) (r : Bool) → MatchBool r (Nothing c) (Somethin
 none_waits c true h none = refl
 none_waits c false h none = absurd (none h.0 h.1 h.2)
 
+-- what two sweeps took out, one after the other, was taken out
+pub swept_both : (d : Quorum) (p : Picture) (x b a : List ℕ) → Swept d p x b → Swept d p b a → Swept d p x a
+swept_both d p x b a u v = record { fewer = λ m s h. u.fewer m s (v.fewer m s h); sound = λ all. v.sound (u.sound all) }
+
 -- one more was taken out
 pub swept_more : (d : Quorum) (p : Picture) (x b a : List ℕ) (m s : ℕ) → Swept d p x b → Less m s b a → Met d (outcomes_of p m s) (get_or b (next_of p m s) 0) → Swept d p x a
 swept_more d p x b a m s w less met = record {

@@ -1,27 +1,28 @@
 -- What a picture says of each configuration.
-use Rattle.std.specs.Prelude.{◌≡◌, ℕ, ◌+◌, ◌*◌, ◌<◌, Bool, true, false, cond, not, ◌&&◌, ◌||◌, slice_index_or}
-use Rattle.std.proofs.Common.{arith}
+use Rattle.std.specs.Prelude.{◌≡◌, ℕ, ◌+◌, ◌*◌, ◌<◌, Bool, true, false, cond, not, ◌&&◌, ◌||◌, slice_index}
+use Rattle.std.proofs.Common.{arith, lit<}
 use Rattle.configurations.specs.Holds.{holds}
 use Rattle.configurations.specs.declared.Configuration.{Configuration}
 use Rattle.picture.specs.declared.Kind.{Kind}
 use Rattle.picture.specs.declared.Kind.TheVariants.{NotReached, Open, StoppedInGoal, StoppedOffGoal, Stuck, Moving}
 use Rattle.picture.specs.declared.Picture.{Picture}
-use Rattle.picture.specs.declared.Step.{Step}
+use Rattle.picture.specs.declared.steps.Step.{Step}
+use Rattle.picture.specs.declared.steps.Steps.{Steps}
 
 abbrev pub is_reached : Picture → ℕ → ℕ → Bool
-is_reached p m s = holds p.reached m s
+is_reached p m s = holds p.reached.states m s
 
 abbrev pub is_open : Picture → ℕ → ℕ → Bool
-is_open p m s = holds p.opened m s
+is_open p m s = holds p.opened.states m s
 
 abbrev pub is_in_goal : Picture → ℕ → ℕ → Bool
-is_in_goal p m s = holds p.finished m s
+is_in_goal p m s = holds p.finished.states m s
 
 abbrev pub is_off_goal : Picture → ℕ → ℕ → Bool
-is_off_goal p m s = holds p.missed m s
+is_off_goal p m s = holds p.missed.states m s
 
 abbrev pub is_stuck : Picture → ℕ → ℕ → Bool
-is_stuck p m s = holds p.stuck m s
+is_stuck p m s = holds p.stuck.states m s
 
 -- A reached configuration that is nothing else moves.
 abbrev pub is_moving : Picture → ℕ → ℕ → Bool
@@ -29,11 +30,20 @@ is_moving p m s = is_reached p m s && not (is_open p m s || (is_in_goal p m s ||
 
 -- The step that stands at a place that a picture does not have.
 abbrev pub no_step : Step
-no_step = record { next = 0; outcomes = 0; near = omega arith }
+no_step = record { next = 0; outcomes = 0; near = omega arith; narrow = lit< tt }
+
+-- The step of configuration (m, s) among the steps.
+abbrev pub step_in : Steps → ℕ → ℕ → Step
+step_in x m s = record {
+  next = slice_index x.nexts (m * 64 + s);
+  outcomes = slice_index x.outcomes (m * 64 + s);
+  near = x.near (m * 64 + s);
+  narrow = x.narrow (m * 64 + s);
+}
 
 -- What configuration (m, s) does if it moves.
 abbrev pub step_at : Picture → ℕ → ℕ → Step
-step_at p m s = slice_index_or p.steps (m * 64 + s) no_step
+step_at p m s = step_in p.steps m s
 
 abbrev pub next_of : Picture → ℕ → ℕ → ℕ
 next_of p m s = (step_at p m s).next

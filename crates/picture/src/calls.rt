@@ -1,17 +1,10 @@
-ghost use Rattle.std.specs.Prelude.{◌≡◌, ℕ, ◌+◌, ◌*◌, ◌<◌, false, MatchOption};
+ghost use Rattle.std.specs.Prelude.{◌≡◌, ℕ, ◌<◌, false, MatchOption};
 ghost use Rattle.configurations.specs.Holds.{holds};
 ghost use Rattle.picture.specs.Kinds.{kind_at, step_at, is_open, is_moving, FirstOpen};
 ghost use Rattle.picture.specs.declared.Kind.TheVariants.{NotReached};
 
-use crate::{Configuration, Configurations, Kind, PLACES, Picture, STATES, Step};
-use sets::StateSet;
-
-// Where the step of a configuration stands.
-pub(crate) fn place(at: Configuration) -> usize
-    ensures { result ≡ at.memory * 64 + at.state }
-{
-    at.memory as usize * STATES + at.state as usize
-}
+use crate::steps::{Step, Steps};
+use crate::{Configuration, Configurations, Kind, Picture};
 
 impl Picture {
     // The picture in which nothing is reached.
@@ -24,10 +17,7 @@ impl Picture {
             finished: Configurations::none(),
             missed: Configurations::none(),
             stuck: Configurations::none(),
-            steps: [Step {
-                next: 0,
-                outcomes: StateSet::EMPTY,
-            }; PLACES],
+            steps: Steps::none(),
         }
     }
 
@@ -65,7 +55,7 @@ impl Picture {
 
     // The configurations that move on from where they are.
     pub fn moving(&self) -> Configurations
-        ensures { (m s : ℕ) → holds result m s ≡ is_moving self.now m s }
+        ensures { (m s : ℕ) → holds result.states m s ≡ is_moving self.now m s }
     {
         let filled = self.reached.without(&self.opened);
         filled
@@ -80,7 +70,7 @@ impl Picture {
         requires state { at.state < 64 }
         ensures { result ≡ step_at self.now at.memory at.state }
     {
-        self.steps[place(at)]
+        self.steps.at(at)
     }
 
     // The kind of a configuration; one that no picture has is not reached.

@@ -4,12 +4,13 @@ ghost use Rattle.picture.specs.Kinds.{is_reached};
 ghost use Rattle.picture.specs.Put.{Put};
 ghost use Rattle.picture.specs.Runs.{kind_of, OfReached};
 
-use crate::calls::place;
-use crate::{Configuration, Configurations, Kind, Picture, Step};
+use crate::steps::Step;
+use crate::{Configuration, Configurations, Kind, Picture};
 use controller::entry::Entry;
 use controller::place::Place;
 use controller::table::Table;
 use environment::Environment;
+use sets::StateSet;
 
 // Where the entry stands that a run reads at a configuration: for its memory and what is seen of its state.
 pub fn reading<E: Environment>(environment: &E, at: Configuration) -> Place
@@ -41,7 +42,10 @@ fn kind_of<E: Environment>(environment: &E, table: &Table, at: Configuration) ->
             if outcomes.is_empty() {
                 Kind::Stuck
             } else {
-                Kind::Moving { next, outcomes }
+                Kind::Moving {
+                    next,
+                    outcomes: u64::from(outcomes),
+                }
             }
         }
     }
@@ -63,7 +67,7 @@ impl Picture {
             Kind::StoppedInGoal => self.finished.insert(at),
             Kind::StoppedOffGoal => self.missed.insert(at),
             Kind::Stuck => self.stuck.insert(at),
-            Kind::Moving { next, outcomes } => self.steps[place(at)] = Step { next, outcomes },
+            Kind::Moving { next, outcomes } => self.steps.set(at, Step { next, outcomes }),
         }
     }
 
@@ -81,7 +85,7 @@ impl Picture {
         while let Some(at) = marks.without(&self.reached).first() {
             let kind = kind_of(environment, table, at);
             if let Kind::Moving { next, outcomes } = kind {
-                marks.add(next, outcomes);
+                marks.add(next, StateSet::from(outcomes));
             }
             self.put(at, kind);
         }

@@ -8,13 +8,11 @@ ghost use Rattle.picture.specs.Parts.{one_kind};
 mod calls;
 mod drawing;
 pub mod settling;
+mod steps;
 
 pub use crate::drawing::reading;
+use crate::steps::Steps;
 pub use configurations::{Configuration, Configurations, MEMORIES, STATES};
-use sets::StateSet;
-
-// So many places there are for steps, one for each configuration.
-const PLACES: usize = MEMORIES * STATES;
 
 #[derive(Clone, Copy, Debug, PartialEq, Eq)]
 pub enum Kind {
@@ -27,22 +25,14 @@ pub enum Kind {
     StoppedOffGoal,
     // The action that is taken here has no outcome.
     Stuck,
-    // A run goes on, at memory `next`, in any one state of the set `outcomes`.
-    Moving { next: u8, outcomes: StateSet },
-}
-
-// What a moving configuration does.
-#[derive(Clone, Copy)]
-struct Step {
-    next: u8,
-    outcomes: StateSet,
-    ghost near: { next < 4 },
+    // A run goes on, at memory `next`, in any one state of the set whose mask is `outcomes`. A mask, so that a kind holds no type with a
+    // model and is copied like any other value.
+    Moving { next: u8, outcomes: u64 },
 }
 
 // A set of configurations for what is reached and one for each kind of it; a reached configuration that is in none of the other sets
-// moves. What a moving configuration (m, s) does stands at the place m * 64 + s of `steps`, one array by numbers: of a row in an array of
-// rows no proof would know the length after a write. The other places there hold what an earlier picture left: drawing a picture does
-// not clear them, and a kind is read by the sets first.
+// moves. What a moving configuration does is its step; the other steps are what an earlier picture left: drawing a picture does not clear
+// them, and a kind is read by the sets first.
 #[derive(Clone, Copy)]
 pub struct Picture {
     reached: Configurations,
@@ -50,9 +40,9 @@ pub struct Picture {
     finished: Configurations,
     missed: Configurations,
     stuck: Configurations,
-    steps: [Step; PLACES],
+    steps: Steps,
     // Each configuration has one kind.
-    ghost parted: { (m s : ℕ) → one_kind (holds reached m s) (holds opened m s) (holds finished m s) (holds missed m s) (holds stuck m s) ≡ true },
+    ghost parted: { (m s : ℕ) → one_kind (holds reached.states m s) (holds opened.states m s) (holds finished.states m s) (holds missed.states m s) (holds stuck.states m s) ≡ true },
     // There are four memories and 64 states.
-    ghost bounded: { (m s : ℕ) → holds reached m s ≡ true → (m < 4) × (s < 64) },
+    ghost bounded: { (m s : ℕ) → holds reached.states m s ≡ true → (m < 4) × (s < 64) },
 }

@@ -34,11 +34,11 @@ impl Environment for Model {
     }
 
     fn initial(&self) -> StateSet {
-        self.initial
+        StateSet::from(self.initial)
     }
 
     fn goal(&self) -> StateSet {
-        self.goal
+        StateSet::from(self.goal)
     }
 
     fn observation(&self, state: u8) -> u8 {
@@ -51,7 +51,7 @@ impl Environment for Model {
 
     fn outcomes(&self, state: u8, action: u8) -> StateSet {
         if state < self.states && action < self.actions {
-            self.leads[state as usize * self.actions as usize + action as usize]
+            StateSet::from(self.leads[state as usize * self.actions as usize + action as usize])
         } else {
             StateSet::EMPTY
         }

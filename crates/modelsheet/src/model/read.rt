@@ -6,7 +6,6 @@ ghost use Rattle.modelsheet.specs.Says.{Read, Says, system_of};
 use crate::model::Model;
 use crate::model::sheet::Sheet;
 use faults::SheetFault;
-use sets::StateSet;
 
 impl Model {
     // Reads a model sheet. A sheet that is not right is refused by the first check that fails, with the byte where it does.
@@ -36,10 +35,10 @@ impl Model {
             states: 0,
             actions: 0,
             observations: 0,
-            initial: StateSet::EMPTY,
-            goal: StateSet::EMPTY,
+            initial: 0,
+            goal: 0,
             sights: [0; 64],
-            leads: [StateSet::EMPTY; 512],
+            leads: [0; 512],
         }
     }
 

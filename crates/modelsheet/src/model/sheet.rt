@@ -94,11 +94,11 @@ fn chain_fault(head: Head, refusal: Refusal, byte: usize) -> ChainFault
     }
 }
 
-// The sets of states that a sheet names.
+// The sets of states that a sheet names, as masks.
 #[derive(Clone, Copy)]
 pub(super) struct Sets {
-    pub(super) initial: StateSet,
-    pub(super) goal: StateSet,
+    pub(super) initial: u64,
+    pub(super) goal: u64,
 }
 
 // A record: its target, and the index of the record that follows it.
@@ -153,12 +153,12 @@ impl<'a> Sheet<'a> {
     pub(super) fn sets(&self) -> Result<Sets, SheetFault>
         ensures { Judged (judge_sets self.now) (SetsRead self.now) result }
     {
-        let initial = StateSet::from(word_at(self.bytes, INITIAL));
-        if initial.is_empty() || !initial.within(self.shape.states) {
+        let initial = word_at(self.bytes, INITIAL);
+        if initial == 0 || !StateSet::from(initial).within(self.shape.states) {
             return Err(sheet_fault(Refusal::StateSet, INITIAL));
         }
-        let goal = StateSet::from(word_at(self.bytes, GOAL));
-        if !goal.within(self.shape.states) {
+        let goal = word_at(self.bytes, GOAL);
+        if !StateSet::from(goal).within(self.shape.states) {
             return Err(sheet_fault(Refusal::StateSet, GOAL));
         }
         Ok(Sets { initial, goal })
@@ -204,8 +204,8 @@ impl<'a> Sheet<'a> {
         Ok(Record { target, next })
     }
 
-    // The set of the targets on the chain of a head, from its first record on.
-    fn chain(&self, head: Head, first: u8) -> Result<StateSet, ChainFault>
+    // The mask of the set of the targets on the chain of a head, from its first record on.
+    fn chain(&self, head: Head, first: u8) -> Result<u64, ChainFault>
         requires { first ≤ records_of self.now }
         ensures { Judged (judge_chain self.now head.state head.action (records_of self.now) [] first) (ChainRead self.now first) result }
     {
@@ -217,11 +217,11 @@ impl<'a> Sheet<'a> {
             met = met.with(record.target);
             index = record.next;
         }
-        Ok(met)
+        Ok(u64::from(met))
     }
 
     // The chain of head k, which is that of state k / actions and action k % actions: the set of its targets.
-    fn head(&self, k: usize) -> Result<StateSet, ChainFault>
+    fn head(&self, k: usize) -> Result<u64, ChainFault>
         requires { k < states_of self.now * actions_of self.now }
         ensures { Judged (judge_head self.now k) (ChainRead self.now (head_of self.now k)) result }
     {
@@ -238,11 +238,11 @@ impl<'a> Sheet<'a> {
         self.chain(head, first)
     }
 
-    // The outcome sets of all states and actions, in the order of their heads.
-    pub(super) fn heads(&self) -> Result<[StateSet; 512], ChainFault>
+    // The masks of the outcome sets of all states and actions, in the order of their heads.
+    pub(super) fn heads(&self) -> Result<[u64; 512], ChainFault>
         ensures { Judged (judge_heads self.now (states_of self.now * actions_of self.now) 0) (HeadsRead self.now) result }
     {
-        let mut leads = [StateSet::EMPTY; 512];
+        let mut leads = [0; 512];
         'heads: for (k, lead) in leads[..self.shape.heads()].iter_mut().enumerate() {
             *lead = self.head(k)?;
         }

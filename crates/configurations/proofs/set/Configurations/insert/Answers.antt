@@ -13,6 +13,6 @@ turned false b x y = refl
 
 pub returns : goal.returns
 returns c = λ m s. c.add.ensures m s
-    ∙ ap (λ b. holds c.args.self.now m s || b)
+    ∙ ap (λ b. holds c.args.self.now.states m s || b)
     (ap (λ b. ltb c.args.at.memory 4 && (eqb c.args.at.memory m && b)) (ap (λ (x : ℕ). has x s) c.only.ensures ∙ has_only c.args.at.state s)
     ∙ turned (ltb c.args.at.memory 4) (ltb c.args.at.state 64) (eqb c.args.at.memory m) (eqb c.args.at.state s))

@@ -8,8 +8,8 @@ pub returns : goal.returns
 returns c = λ m s.
     let k = c.loop-memory.memory in
     elim (cases_lt m k) [
-      | inl lt ↦ c.loop-memory.invariant.1 m s ∙ ap (λ b. holds c.args.self.now m s && not (b && holds c.args.other.now m s)) (lt-ltb m k lt)
+      | inl lt ↦ c.loop-memory.invariant.1 m s ∙ ap (λ b. holds c.args.self.now.states m s && not (b && holds c.args.other.now.states m s)) (lt-ltb m k lt)
       | inr ge ↦
-          let past = held_past c.args.self.now m s (omega (arith, c.memories-memory-end.ensures.sets)) in
+          let past = held_past c.args.self.now.states m s (omega (arith, c.memories-memory-end.ensures.sets)) in
           c.loop-memory.invariant.1 m s ∙ and_left _ _ past ∙ sym (and_left _ _ past)
     ]

@@ -7,8 +7,8 @@ use Rattle.measure.proofs.loads.Runs.settle.Given as goal
 abbrev pub invariant-loop-at : goal.invariant-loop-at
 invariant-loop-at g l =
     (length l.loads ≡ length l.fn.loads)
-    × ((m s : ℕ) → holds l.waiting m s ≡ true → (m < l.self.table.now.memories) × (s < (g.E.Environment.meaning l.self.environment.now).states))
+    × ((m s : ℕ) → holds l.waiting.states m s ≡ true → (m < l.self.table.now.memories) × (s < (g.E.Environment.meaning l.self.environment.now).states))
     × ((k : ℕ) → size (g.E.Environment.meaning l.self.environment.now) l.self.table.now ≤ k → get_or l.loads k g.M.Measure.none ≡ get_or l.fn.loads k g.M.Measure.none)
 
 abbrev pub decreases-loop-at : goal.decreases-loop-at
-decreases-loop-at g l = weight l.waiting
+decreases-loop-at g l = weight l.waiting.states

@@ -28,4 +28,5 @@ records-preserved c =
 
 pub returns : goal.returns
 returns c =
-    ended c.args.self.now c.args.head.state c.args.head.action c.args.first c.records.index c.records.met c.records.invariant c.records-test.false
+    rw c.from.ensures
+    (ended c.args.self.now c.args.head.state c.args.head.action c.args.first c.records.index c.records.met c.records.invariant c.records-test.false)

@@ -15,13 +15,13 @@ low_bit a = ap (λ (x : ℕ). eqb (x % 2) 1) (div-one a)
 half_lt : (n x : ℕ) → x < 2 ^ suc n → x / 2 < 2 ^ n
 half_lt n x lt = omega (arith, pow-suc 2 n)
 
--- the smallest state of a set that is not empty
-record Least (n x t : ℕ) : Type 0 where
+-- the smallest state of a set that is not empty, over any width
+pub record Least (n x t : ℕ) : Type 0 where
   pub below : t < n
   pub here : has x t ≡ true
   pub before : (k : ℕ) → k < t → has x k ≡ false
 
-least : (n x : ℕ) → 0 < x → x < 2 ^ n → Least n x (count_trailing_zeros n x)
+pub least : (n x : ℕ) → 0 < x → x < 2 ^ n → Least n x (count_trailing_zeros n x)
 unfolding count_trailing_zeros
 least zero x h lt = absurd (omega arith)
 least (suc n) x h lt = by_digit (λ g. least n (x / 2) g (half_lt n x lt)) (x % 2) refl

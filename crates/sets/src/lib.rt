@@ -106,7 +106,10 @@ impl StateSet {
     pub fn with(self, state: u8) -> StateSet
         ensures { (t : ℕ) → has result t ≡ (has self t || (nat_lt state 64 && state == t)) }
     {
-        self.union(StateSet::only(state))
+        match state {
+            0..=63 => self.union(StateSet::only(state)),
+            _ => self,
+        }
     }
 
     // The set without the state in it. By the masks, and not by `without`: here it counts that no mask has a state past 63.

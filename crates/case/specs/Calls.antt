@@ -11,7 +11,7 @@ use Rattle.measure.specs.Refused.{size, Loaded, Refused}
 use Rattle.picture.specs.Drawn.{PictureOf}
 use Rattle.picture.specs.Kinds.{is_open}
 use Rattle.tree.specs.Bars.{barred_at}
-use Rattle.tree.specs.Trails.{places_of}
+use Rattle.tree.specs.Trails.{places_of, unused}
 use Rattle.tree.specs.Walks.{Back}
 use Rattle.case.specs.declared.case.Phase.{Phase}
 use Rattle.case.specs.declared.case.Phase.TheVariants.{New, Searching, Found, Exhausted}
@@ -106,6 +106,7 @@ module _ {E R : Type 0} where
     pub observations : after.walk.table.observations ≡ x.observations
     pub root : after.walk.table.entries ≡ replicate 64 Blank
     pub fresh : places_of after.walk.trail ≡ []
+    pub bare : after.walk.trail ≡ unused
 
   -- what stays over an advance and a next: the table too has as many memories, over one alphabet
   pub record Kept (before after : Case E R) : Type 0 where

@@ -74,3 +74,34 @@ pub fn solve(file: &[u8]) -> Verdict
         Err(fault) => Verdict::Refused(fault),
     }
 }
+
+#[cfg(test)]
+mod tests {
+    use super::*;
+    use std::test::Fail;
+
+    // A shuttle of two places.
+    const SHUTTLE: [u8; 39] = [
+        77, 4, 2, 3, 3, 1, 0, 0, 0, 0, 0, 0, 0, 2, 0, 0, 0, 0, 0, 0, 0, 0, 0, 2, 2, 0, 1, 0, 1, 2,
+        0, 3, 0, 3, 0, 0, 0, 1, 0,
+    ];
+
+    // With two memories it has two controllers by the strict rule: after 9 tables, and after 16 more. The order ends 11 tables later.
+    #[test]
+    fn next_goes_on_behind_the_controller_that_was_found(rt: HostRuntime) -> Result<(), Fail> {
+        let mut case = Case::new(Model::read(&SHUTTLE)?, Strict);
+        case.begin(2)?;
+        let first = case.advance(AMOUNT)?;
+        assert_eq!(rt; first.phase, Phase::Found);
+        assert_eq!(rt; first.judged, 9);
+        assert_eq!(rt; case.next()?, Phase::Searching);
+        let second = case.advance(AMOUNT)?;
+        assert_eq!(rt; second.phase, Phase::Found);
+        assert_eq!(rt; second.judged, 16);
+        assert_eq!(rt; case.next()?, Phase::Searching);
+        let last = case.advance(AMOUNT)?;
+        assert_eq!(rt; last.phase, Phase::Exhausted);
+        assert_eq!(rt; last.judged, 11);
+        Ok(())
+    }
+}

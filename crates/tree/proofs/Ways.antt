@@ -21,7 +21,7 @@ counts_then p q = record {
 
 -- the way back keeps a table's counts
 pub back_counts : {b : Bars} {w x : Walk} {r : Bool} → Back b w x r → SameCounts w.table x.table
-back_counts (root e) = counts_none _
+back_counts (root e f) = counts_none _
 back_counts (turn d c f e) = f.counts
 back_counts (up c f more) = counts_then f.table.counts (back_counts more)
 

@@ -36,7 +36,7 @@ impl Walk {
 
     // The place that was filled last; none at the root.
     fn last(&self) -> Option<Place>
-        ensures { MatchOption result (places_of self.now.trail ≡ []) (λ p. (0 < length (places_of self.now.trail)) × (p ≡ last_place self.now)) }
+        ensures { MatchOption result ((places_of self.now.trail ≡ []) × (self.now.trail.depth ≡ 0)) (λ p. (0 < length (places_of self.now.trail)) × (p ≡ last_place self.now)) }
     {
         self.trail.last()
     }

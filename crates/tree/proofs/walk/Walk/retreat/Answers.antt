@@ -6,7 +6,7 @@ use Rattle.tree.proofs.Ways.{back_counts, left_at}
 use Rattle.tree.proofs.walk.Walk.retreat.Goals as goal
 
 pub returns : goal.returns
-returns c = let way = c.loop-at.invariant _ _ (root c.in_default.ensures) in record { way = way; counts = back_counts way }
+returns c = let way = c.loop-at.invariant _ _ (root c.in_default.ensures.0 c.in_default.ensures.1) in record { way = way; counts = back_counts way }
 
 pub returns-in-Some-following : goal.returns-in-Some-following
 returns-in-Some-following c =
